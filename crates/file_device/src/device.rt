@@ -1,13 +1,14 @@
 //! The image that stands in a file of the system, which tells nothing of its bytes.
-ghost use Rattle.std.specs.Prelude.{◌≡◌, true, false, not};
+ghost use Rattle.std.specs.Prelude.{◌≡◌, true, false, not, IfOk, string_bytes};
 ghost use Rattle.std.specs.Fs.{asks_read, asks_write, asks_append, asks_truncate, asks_create, asks_create_new};
 
 use file_disk::{Device, DeviceFault, OpenFault};
+use std::alloc::Global;
 use std::fs::OpenOptions;
 use std::io::ErrorKind;
 use std::marker::Model;
 use std::os::unix::fs::FileExt;
-use std::rt;
+use std::{io, rt};
 
 /// A device over one file of the system at a time, by names that are relative to the working
 /// directory. A write before an image was opened fails, and so does a read. So does a read that
@@ -15,6 +16,8 @@ use std::rt;
 #[derive(Drop)]
 pub struct FileDevice<'r, R: rt::Files> {
     rt: &'r R,
+    alloc: Global,
+    names: Vec<String>,
     file: Option<R::File>,
     faults: u64,
     reads: u64,
@@ -22,14 +25,20 @@ pub struct FileDevice<'r, R: rt::Files> {
 }
 
 impl<'r, R: rt::Files> Model for FileDevice<'r, R> {
+    ghost use Rattle.std.specs.Prelude.{map, string_bytes};
     ghost use Rattle.file_device.specs.Counts.{FileCounts};
 
     ghost Value = { FileCounts };
 
-    ghost view = { λ d. record { faults = d.faults; reads = d.reads; refusals = d.refusals } };
+    ghost view = { λ d. record {
+      names = map string_bytes d.names.items;
+      faults = d.faults;
+      reads = d.reads;
+      refusals = d.refusals;
+    } };
 }
 
-impl<'r, R: rt::Files> FileDevice<'r, R> {
+impl<'r, R: rt::Files + AllocGlobal> FileDevice<'r, R> {
     ghost use Rattle.std.specs.Prelude.{◌≡◌};
     ghost use Rattle.file_device.specs.Counts.{none_counted};
 
@@ -37,8 +46,11 @@ impl<'r, R: rt::Files> FileDevice<'r, R> {
     pub fn new(rt: &'r R) -> FileDevice<'r, R>
         ensures { result ≡ none_counted }
     {
+        let alloc = rt.alloc();
         FileDevice {
             rt,
+            alloc,
+            names: Vec::new(alloc),
             file: None,
             faults: 0,
             reads: 0,
@@ -63,6 +75,21 @@ fn options(over: bool) -> OpenOptions
     how
 }
 
+/// A file of the system, and the name that it was opened by.
+#[derive(Drop)]
+struct Named<F> {
+    name: String,
+    file: F,
+}
+
+/// Opens the file of a name. No file is opened but here, so that each has its name.
+fn open_named<R: rt::Files>(rt: &R, name: String, over: bool) -> io::Result<Named<R::File>>
+    ensures { IfOk result (λ opened. string_bytes opened.name ≡ string_bytes name) }
+{
+    let file = options(over).open(rt, name.as_str())?;
+    Ok(Named { name, file })
+}
+
 impl<'r, R: rt::Files> Device for FileDevice<'r, R>
 where
     R::File: FileExt,
@@ -72,8 +99,12 @@ where
     ghost state = { λ d. untold_device d };
 
     fn open(&mut self, name: &str, over: bool) -> Result<(), OpenFault> {
-        match options(over).open(self.rt, name) {
-            Ok(file) => {
+        let name = String::from_str(self.alloc, name)?;
+        self.names.reserve(1)?;
+        match open_named(self.rt, name, over) {
+            Ok(opened) => {
+                let Named { name, file } = opened;
+                self.names.push_reserved(name);
                 self.file = Some(file);
                 Ok(())
             }

@@ -82,6 +82,7 @@ stored-none a =
       extents = sym (append-nil a.extents);
       next = omega arith;
       written = record {
+        names = refl;
         faults = refl;
         reads = refl;
         refusals = refl;
@@ -98,6 +99,7 @@ written-join a b c at xs ys s t =
     let first = same-wider a.told b.told at (length xs) at (length (xs ++ ys)) (omega arith) (omega (arith, whole)) s.outside in
     let second = same-wider b.told c.told (at + length xs) (length ys) at (length (xs ++ ys)) (omega arith) (omega (arith, whole)) t.outside in
     record {
+      names = t.names ∙ s.names;
       faults = t.faults ∙ s.faults;
       reads = t.reads ∙ s.reads;
       refusals = t.refusals ∙ s.refusals;
@@ -133,6 +135,7 @@ cut-join a b d ps m len more s within cut =
     let first = same-wider a.device.told b.device.told a.next (length (all_bytes ps)) a.next len (omega arith) (omega arith) s.written.outside in
     let second = same-wider b.device.told d.told b.next m a.next len (omega (arith, s.next)) (omega (arith, s.next)) cut.outside in
     record {
+      names = cut.names ∙ s.written.names;
       faults = omega (arith, s.written.faults, cut.faults);
       reads = cut.reads ∙ s.written.reads;
       refusals = cut.refusals ∙ s.written.refusals;

@@ -9,3 +9,4 @@ pub mod Finding
 pub mod Single
 pub mod Fetched
 pub mod Keeping
+pub mod Imaged

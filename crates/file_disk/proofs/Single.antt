@@ -12,7 +12,7 @@ use Rattle.file_disk.proofs.Order.{names-placed, disk-rises}
 use Rattle.file_disk.proofs.Sizes.{AreFew, AreFew-blocks, disk-fits}
 
 -- the bytes that are lent of a part
-cut-bytes : (p : LibraryPart) (bytes : List ℕ) → IsCut p.library p.span bytes → bytes ≡ part_bytes p
+pub cut-bytes : (p : LibraryPart) (bytes : List ℕ) → IsCut p.library p.span bytes → bytes ≡ part_bytes p
 cut-bytes p bytes cut =
     cut.cut ∙ ap (λ (o : Option (List ℕ)). take p.span.len (drop p.span.from (unwrap_or o []))) (sym cut.there)
 

@@ -1,14 +1,16 @@
 -- What a device tells once an image was opened and after a write, what a read of it gives, and why none of them was done.
-use Rattle.std.specs.Prelude.{◌≡◌, ℕ, ◌+◌, ◌-◌, ◌^◌, ◌<◌, ◌≤◌, ◌⊎◌, Bool, false, List, [], length, get_or, Option, Some, None}
+use Rattle.std.specs.Prelude.{◌≡◌, ℕ, ◌+◌, ◌-◌, ◌^◌, ◌<◌, ◌≤◌, ◌⊎◌, Bool, false, List, [], ◌∷◌, ◌++◌, length, get_or, Option, Some, None}
 use Rattle.file_disk.specs.declared.device.DeviceFault.{DeviceFault}
 use Rattle.file_disk.specs.declared.device.DeviceFault.TheVariants.{Failed, NoMemory}
 use Rattle.file_disk.specs.declared.device.OpenFault.{OpenFault}
 use Rattle.file_disk.specs.declared.device.OpenFault.TheVariants as opening
 
--- a device: what it tells of its bytes, if it tells anything, how many of its calls failed, how many
--- of its reads were answered, and how often an image was not opened since it exists
+-- a device: what it tells of its bytes, if it tells anything, the names of the images that were opened,
+-- in order, of which the last one is written and read, how many of its calls failed, how many of its
+-- reads were answered, and how often an image was not opened since it exists
 pub record DeviceState : Type 0 where
   pub told : Option (List ℕ)
+  pub names : List (List ℕ)
   pub faults : ℕ
   pub reads : ℕ
   pub refusals : ℕ
@@ -47,8 +49,17 @@ HasNoBytes None (Some new) = ⊥
 HasNoBytes (Some old) None = ⊥
 HasNoBytes (Some old) (Some new) = new ≡ []
 
--- an image was opened: it has no bytes, and nothing is counted
-pub record IsOpened (old new : DeviceState) : Type 0 where
+-- the image of a name was opened, and no other one
+abbrev pub HasOpened : List ℕ → DeviceState → DeviceState → Type 0
+HasOpened name old new = new.names ≡ old.names ++ name ∷ []
+
+-- no image was opened but that of a name, once at most
+abbrev pub OpensOnly : List ℕ → DeviceState → DeviceState → Type 0
+OpensOnly name old new = (new.names ≡ old.names) ⊎ HasOpened name old new
+
+-- the image of a name was opened: it has no bytes, and nothing is counted
+pub record IsOpened (name : List ℕ) (old new : DeviceState) : Type 0 where
+  pub named : HasOpened name old new
   pub faults : new.faults ≡ old.faults
   pub reads : new.reads ≡ old.reads
   pub refusals : new.refusals ≡ old.refusals
@@ -57,6 +68,7 @@ pub record IsOpened (old new : DeviceState) : Type 0 where
 -- one more call failed, and nothing else was changed
 pub record IsOpenFailed (old new : DeviceState) : Type 0 where
   pub told : new.told ≡ old.told
+  pub names : new.names ≡ old.names
   pub faults : new.faults ≡ old.faults + 1
   pub reads : new.reads ≡ old.reads
   pub refusals : new.refusals ≡ old.refusals
@@ -65,6 +77,7 @@ pub record IsOpenFailed (old new : DeviceState) : Type 0 where
 pub record IsRefused (over : Bool) (old new : DeviceState) : Type 0 where
   pub kept : over ≡ false
   pub told : new.told ≡ old.told
+  pub names : new.names ≡ old.names
   pub faults : new.faults ≡ old.faults
   pub reads : new.reads ≡ old.reads
   pub refusals : new.refusals ≡ old.refusals + 1
@@ -77,6 +90,7 @@ OpenCause over old new opening.NoMemory = new ≡ old
 
 -- the bytes were written at a place, and nothing else was changed
 pub record AreWrittenAt (old new : DeviceState) (at : ℕ) (bytes : List ℕ) : Type 0 where
+  pub names : new.names ≡ old.names
   pub faults : new.faults ≡ old.faults
   pub reads : new.reads ≡ old.reads
   pub refusals : new.refusals ≡ old.refusals
@@ -85,6 +99,7 @@ pub record AreWrittenAt (old new : DeviceState) (at : ℕ) (bytes : List ℕ) : 
 
 -- one more call failed, and nothing was changed outside the range of the bytes
 pub record IsWriteFailed (old new : DeviceState) (at len : ℕ) : Type 0 where
+  pub names : new.names ≡ old.names
   pub faults : new.faults ≡ old.faults + 1
   pub reads : new.reads ≡ old.reads
   pub refusals : new.refusals ≡ old.refusals
@@ -98,6 +113,7 @@ WriteCause old new at len NoMemory = new ≡ old
 -- the bytes that were read are those that stand at a place, and nothing was changed
 pub record AreReadAt (old new : DeviceState) (at : ℕ) (bytes : List ℕ) : Type 0 where
   pub told : new.told ≡ old.told
+  pub names : new.names ≡ old.names
   pub faults : new.faults ≡ old.faults
   pub reads : new.reads ≡ old.reads + 1
   pub refusals : new.refusals ≡ old.refusals
@@ -106,6 +122,7 @@ pub record AreReadAt (old new : DeviceState) (at : ℕ) (bytes : List ℕ) : Typ
 -- one more call failed, which counts as an answer too, and nothing was changed
 pub record IsReadFailed (old new : DeviceState) : Type 0 where
   pub told : new.told ≡ old.told
+  pub names : new.names ≡ old.names
   pub faults : new.faults ≡ old.faults + 1
   pub reads : new.reads ≡ old.reads + 1
   pub refusals : new.refusals ≡ old.refusals

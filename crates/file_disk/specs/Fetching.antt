@@ -2,8 +2,11 @@
 use Rattle.std.specs.Prelude.{◌≡◌, ◌≢◌, ℕ, List, length, Option, Some, None, Result, Ok, Err, Vec}
 use Rattle.std.specs.declared.alloc.Global.{Global}
 use Rattle.sha2.specs.Sha256.{sha256}
+use Rattle.tiger_base.specs.Span.{LibraryPart}
 use Rattle.node_kit.specs.declared.course.Digest32.{Digest32}
+use Rattle.disk_image.specs.Image.{Image}
 use Rattle.file_disk.specs.Devices.{DeviceState, AreReadAt, IsReadFailed, StandAt}
+use Rattle.file_disk.specs.Parts.{image_part, part_bytes}
 use Rattle.file_disk.specs.declared.directory.Extent.{Extent}
 use Rattle.file_disk.specs.declared.getting.FetchFault.{FetchFault}
 use Rattle.file_disk.specs.declared.getting.FetchFault.TheVariants.{Failed, Damaged, NoMemory}
@@ -12,6 +15,10 @@ use Rattle.file_disk.specs.declared.getting.FetchFault.TheVariants.{Failed, Dama
 pub record HasKept (e : Extent) (bytes : List ℕ) : Type 0 where
   pub len : length bytes ≡ e.len
   pub digest : sha256 bytes ≡ e.digest.0
+
+-- what is kept is of the image's own bytes, if the image has the part
+abbrev pub IsOfImage : Image → Extent → Type 0
+IsOfImage m e = (p : LibraryPart) → image_part m e.name ≡ Some p → HasKept e (part_bytes p)
 
 -- what is given of a part: the bytes that were read at its place, which are as they were kept; or
 -- nothing, and nothing is read, if none is kept

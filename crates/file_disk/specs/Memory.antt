@@ -7,10 +7,10 @@ use Rattle.file_disk.specs.declared.device.DeviceFault.TheVariants.{Failed}
 use Rattle.file_disk.specs.declared.device.OpenFault.{OpenFault}
 use Rattle.file_disk.specs.declared.device.OpenFault.TheVariants as opening
 
--- a device in memory: whether it has an image, the image's bytes, the calls that fail, whether every read fails, and the
--- counts
+-- a device in memory: the names that its image was opened by, the image's bytes, the calls that fail, whether every read
+-- fails, and the counts
 pub record MemoryDevice : Type 0 where
-  pub opened : Bool
+  pub names : List (List ℕ)
   pub bytes : List ℕ
   pub failing : List ℕ
   pub reads_fail : Bool
@@ -22,7 +22,13 @@ pub record MemoryDevice : Type 0 where
 -- it tells all of its bytes
 abbrev pub device_of : MemoryDevice → DeviceState
 device_of m =
-    record { told = Some m.bytes; faults = m.faults; reads = m.reads; refusals = m.refusals }
+    record {
+      told = Some m.bytes;
+      names = m.names;
+      faults = m.faults;
+      reads = m.reads;
+      refusals = m.refusals;
+    }
 
 -- the next call is made to fail
 abbrev pub fails_next : MemoryDevice → Bool
@@ -50,9 +56,13 @@ abbrev pub is_open_refused : Result (Unit {0}) OpenFault → Bool
 is_open_refused (Err opening.Exists) = true
 is_open_refused _ = false
 
+-- there is an image, since one was opened
+abbrev pub has_image : MemoryDevice → Bool
+has_image m = not (length m.names == 0)
+
 -- the next call fails not, and finds an image that is not to be written over
 abbrev pub refuses_next : MemoryDevice → Bool → Bool
-refuses_next m over = not (fails_next m) && (m.opened && not over)
+refuses_next m over = not (fails_next m) && (has_image m && not over)
 
 -- one more call is counted, up to the greatest number
 abbrev pub counted : MemoryDevice → MemoryDevice

@@ -9,6 +9,7 @@ use Rattle.file_disk.specs.declared.putting.StoreFault.TheVariants.{Failed, NoMe
 
 -- nothing was changed outside a range, and so many more calls failed
 pub record IsCutShort (old new : DeviceState) (at len more : ℕ) : Type 0 where
+  pub names : new.names ≡ old.names
   pub faults : new.faults ≡ old.faults + more
   pub reads : new.reads ≡ old.reads
   pub refusals : new.refusals ≡ old.refusals

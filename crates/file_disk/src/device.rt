@@ -44,15 +44,38 @@ impl<T: Drop> From<AllocFailed<T>> for DeviceFault {
     }
 }
 
+impl From<AllocError> for OpenFault {
+    ghost use Rattle.std.specs.Prelude.{◌≡◌};
+    ghost use Rattle.file_disk.specs.declared.device.OpenFault.TheVariants.{NoMemory};
+
+    ghost from_gives = { λ _ fault. fault ≡ NoMemory };
+
+    fn from(_error: AllocError) -> OpenFault {
+        OpenFault::NoMemory
+    }
+}
+
+impl<T: Drop> From<AllocFailed<T>> for OpenFault {
+    ghost use Rattle.std.specs.Prelude.{◌≡◌};
+    ghost use Rattle.file_disk.specs.declared.device.OpenFault.TheVariants.{NoMemory};
+
+    ghost from_gives = { λ _ fault. fault ≡ NoMemory };
+
+    fn from(_error: AllocFailed<T>) -> OpenFault {
+        OpenFault::NoMemory
+    }
+}
+
 /// A device that keeps bytes at places of an image, counted from 0. Contracts see what it tells of
 /// its bytes, and what it counts.
 pub trait Device {
     ghost use Rattle.std.specs.Prelude.{◌≡◌, ◌+◌, ◌≤◌, OnOk, IfErr, length};
     ghost use Rattle.file_disk.specs.Devices.{DeviceState, IsOpened, AreWrittenAt, AreReadAt, OpenCause, WriteCause, ReadCause, most_counted, last_end};
 
-    /// What it tells of its bytes, if it tells anything, how many of its calls failed, how many of
-    /// its reads were answered, be it with the bytes or that they failed, and how often an image was
-    /// not opened since it exists. Whether it tells anything never changes.
+    /// What it tells of its bytes, if it tells anything, the names of the images that were opened,
+    /// in order, how many of its calls failed, how many of its reads were answered, be it with the
+    /// bytes or that they failed, and how often an image was not opened since it exists. Whether it
+    /// tells anything never changes.
     ghost state: { Self → DeviceState };
 
     /// Takes the image of a name for all further calls. It begins with no bytes. One that exists is
@@ -60,7 +83,7 @@ pub trait Device {
     fn open(&mut self, name: &str, over: bool) -> Result<(), OpenFault>
         requires faults { (state self.old).faults ≤ most_counted }
         requires refusals { (state self.old).refusals ≤ most_counted }
-        ensures opened { OnOk result (IsOpened (state self.old) (state self.new)) }
+        ensures opened { OnOk result (IsOpened name.now (state self.old) (state self.new)) }
         ensures cause { IfErr result (OpenCause over (state self.old) (state self.new)) };
 
     /// Writes the bytes at a place. After a failure the range of the bytes may hold anything.

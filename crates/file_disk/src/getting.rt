@@ -4,10 +4,12 @@ ghost use Rattle.sha2.specs.Sha256.{sha256};
 ghost use Rattle.file_disk.specs.Devices.{AreReadAt, ReadCause, most_counted, last_end};
 ghost use Rattle.file_disk.specs.Extents.{extent_of};
 ghost use Rattle.file_disk.specs.Parts.{part_name};
-ghost use Rattle.file_disk.specs.Fetching.{IsFetched, FetchCause, GivesWhatStands, IsOther};
+ghost use Rattle.file_disk.specs.Fetching.{IsFetched, FetchCause, GivesWhatStands, IsOfImage, IsOther};
 
 use crate::device::{Device, DeviceFault};
 use crate::directory::{Directory, Extent, PartName, digest_of};
+use crate::putting::image_part;
+use disk_image::DiskImage;
 use node_kit::Digest32;
 use std::alloc::{AllocError, AllocFailed, Global};
 use tiger_base::FileNo;
@@ -97,6 +99,29 @@ pub fn fetch_extent<V: Device>(
     }
 }
 
+/// The same of a part of an image that is at hand. What was read is compared with the image's own bytes first, which have the
+/// length and the SHA-256 that were kept, so that it is hashed only if it is not the same.
+pub fn fetch_stored<'a, V: Device>(
+    alloc: Global,
+    image: &'a DiskImage<'a>,
+    extent: Extent,
+    dev: &mut V,
+) -> Result<Vec<u8>, FetchFault>
+    requires of_image { IsOfImage image.now extent }
+    requires faults { (V.state dev.old).faults ≤ most_counted }
+    requires reads { (V.state dev.old).reads ≤ most_counted }
+    requires end { extent.at + extent.len ≤ last_end }
+    ensures given { IfOk result
+        (λ v. IsFetched (Some extent) (V.state dev.old) (V.state dev.new) (Some v.items)) }
+    ensures cause { IfErr result (FetchCause (Some extent) (V.state dev.old) (V.state dev.new)) }
+{
+    match read(alloc, extent.at, extent.len, dev) {
+        Ok(bytes) => compared(image, extent, bytes),
+        Err(DeviceFault::Failed) => Err(FetchFault::Failed),
+        Err(DeviceFault::NoMemory) => Err(FetchFault::NoMemory),
+    }
+}
+
 /// So many bytes from a place on.
 fn read<V: Device>(alloc: Global, at: u64, len: u64, dev: &mut V) -> Result<Vec<u8>, DeviceFault>
     requires faults { (V.state dev.old).faults ≤ most_counted }
@@ -135,6 +160,34 @@ fn checked(extent: Extent, bytes: Vec<u8>) -> Result<Vec<u8>, FetchFault>
         kept: extent.digest,
         found,
     })
+}
+
+/// The same of a part of an image that is at hand, of which the image's own bytes are not hashed again.
+fn compared<'a>(
+    image: &'a DiskImage<'a>,
+    extent: Extent,
+    bytes: Vec<u8>,
+) -> Result<Vec<u8>, FetchFault>
+    requires { IsOfImage image.now extent }
+    ensures same { IfOk result (λ v. v.items ≡ bytes.items) }
+    ensures kept { IfOk result (λ _. sha256 bytes.items ≡ extent.digest.0) }
+    ensures other { IfErr result (IsOther extent bytes.items) }
+{
+    if is_of_image(image, extent, bytes.as_slice()) {
+        return Ok(bytes);
+    }
+    checked(extent, bytes)
+}
+
+/// Whether bytes are the image's own of a part, and so have the digest that was kept.
+fn is_of_image<'a>(image: &'a DiskImage<'a>, extent: Extent, bytes: &[u8]) -> bool
+    requires { IsOfImage image.now extent }
+    ensures { result ≡ true → sha256 bytes.now ≡ extent.digest.0 }
+{
+    match image_part(image, extent.name) {
+        Some(part) => are_same(bytes, part.bytes()),
+        None => false,
+    }
 }
 
 /// Whether bytes are the same.

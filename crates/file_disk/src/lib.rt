@@ -12,7 +12,7 @@ pub mod rows;
 
 pub use device::{Device, DeviceFault, OpenFault};
 pub use directory::{Directory, Extent, PartName};
-pub use getting::{FetchFault, fetch, fetch_extent};
+pub use getting::{FetchFault, fetch, fetch_extent, fetch_stored};
 pub use mem_device::MemDevice;
 pub use putting::{StoreFault, store};
 

@@ -8,10 +8,11 @@ use std::alloc::{AllocError, Global};
 use std::marker::Model;
 use tiger_base::NoMemory;
 
-/// One image in memory, whatever its name, with calls that are made to fail.
+/// One image in memory, whatever names it is opened by, with calls that are made to fail.
 #[derive(Drop)]
 pub struct MemDevice {
-    opened: bool,
+    alloc: Global,
+    names: Vec<String>,
     bytes: Vec<u8>,
     failing: Vec<u64>,
     reads_fail: bool,
@@ -22,12 +23,13 @@ pub struct MemDevice {
 }
 
 impl Model for MemDevice {
+    ghost use Rattle.std.specs.Prelude.{map, string_bytes};
     ghost use Rattle.file_disk.specs.Memory.{MemoryDevice};
 
     ghost Value = { MemoryDevice };
 
     ghost view = { λ m. record {
-      opened = m.opened;
+      names = map string_bytes m.names.items;
       bytes = m.bytes.items;
       failing = m.failing.items;
       reads_fail = m.reads_fail;
@@ -44,7 +46,7 @@ impl MemDevice {
     /// A device with no image and no bytes, of which no call fails.
     pub fn new(alloc: Global) -> MemDevice
         ensures { result ≡ record {
-          opened = false;
+          names = [];
           bytes = [];
           failing = [];
           reads_fail = false;
@@ -55,7 +57,8 @@ impl MemDevice {
         } }
     {
         MemDevice {
-            opened: false,
+            alloc,
+            names: Vec::new(alloc),
             bytes: Vec::new(alloc),
             failing: Vec::new(alloc),
             reads_fail: false,
@@ -194,10 +197,10 @@ impl Device for MemDevice {
 
     ghost state = { λ m. device_of m };
 
-    fn open(&mut self, _name: &str, over: bool) -> Result<(), OpenFault>
+    fn open(&mut self, name: &str, over: bool) -> Result<(), OpenFault>
         requires faults { self.old.faults ≤ most_counted }
         requires refusals { self.old.refusals ≤ most_counted }
-        ensures opened { OnOk result (IsOpened (device_of self.old) (device_of self.new)) }
+        ensures opened { OnOk result (IsOpened name.now (device_of self.old) (device_of self.new)) }
         ensures cause { IfErr result (OpenCause over (device_of self.old) (device_of self.new)) }
 
         // It fails exactly if it was made to, and refuses exactly if there is an image that is not
@@ -205,23 +208,22 @@ impl Device for MemDevice {
         ensures failed { is_open_failed result ≡ fails_next self.old }
         ensures refused { is_open_refused result ≡ refuses_next self.old over }
         ensures counts { self.new ≡ record (counted self.old) {
-          opened = self.new.opened;
+          names = self.new.names;
           bytes = self.new.bytes;
           faults = self.new.faults;
           refusals = self.new.refusals;
         } }
-        ensures image { OnOk result (self.new.opened ≡ true) }
-        ensures same_image { OnErr result (self.new.opened ≡ self.old.opened) }
     {
         if self.next_fails() {
             self.faults += 1;
             return Err(OpenFault::Failed);
         }
-        if self.opened && !over {
+        if self.names.len() > 0 && !over {
             self.refusals += 1;
             return Err(OpenFault::Exists);
         }
-        self.opened = true;
+        let name = String::from_str(self.alloc, name)?;
+        self.names.push(name)?;
         self.bytes.clear();
         Ok(())
     }

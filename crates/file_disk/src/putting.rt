@@ -1,9 +1,11 @@
 //! Puts all parts of a disk's image on a device.
 ghost use Rattle.std.specs.Prelude.{◌≡◌, ◌+◌, ◌-◌, ◌^◌, ◌≤◌, ◌∷◌, [], All, length, IfOk, OnOk, IfErr};
 ghost use Rattle.tiger_base.specs.Limits.{most_file};
+ghost use Rattle.std.specs.List.{AllByRecursion};
 ghost use Rattle.file_disk.specs.Devices.{AreWrittenAt, most_counted, last_end};
 ghost use Rattle.file_disk.specs.Extents.{NamedPart, all_bytes, placed};
 ghost use Rattle.file_disk.specs.Parts.{image_part, part_here, parts_of_block, parts_of_file, parts_of_files, disk_parts, most_pieces};
+ghost use Rattle.file_disk.specs.Fetching.{IsOfImage};
 ghost use Rattle.file_disk.specs.Storing.{StoreCause, Stored, progress};
 
 use crate::device::{Device, DeviceFault};
@@ -81,6 +83,7 @@ pub fn store<'a, V: Device>(
     requires place { at ≤ 2 ^ 61 }
     requires faults { (V.state dev.old).faults ≤ most_counted }
     ensures directory { IfOk result (λ dir. dir ≡ placed at (disk_parts image.now)) }
+    ensures of_image { IfOk result (λ dir. AllByRecursion (IsOfImage image.now) dir) }
     ensures written { let bytes = all_bytes (disk_parts image.now) in
         OnOk result (AreWrittenAt (V.state dev.old) (V.state dev.new) at bytes) }
     ensures cause { let len = length (all_bytes (disk_parts image.now)) in
@@ -217,7 +220,7 @@ fn store_part<'a, V: Device>(
 }
 
 /// The part of a name, if the image has it.
-fn image_part<'a>(image: &'a DiskImage<'a>, name: PartName) -> Option<Part<'a>>
+pub(crate) fn image_part<'a>(image: &'a DiskImage<'a>, name: PartName) -> Option<Part<'a>>
     ensures { result ≡ image_part image.now name }
 {
     if name.piece == 0 {

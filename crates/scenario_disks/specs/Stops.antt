@@ -1,7 +1,7 @@
 -- Why the disks of a scenario are not in an image.
 use Rattle.std.specs.Prelude.{◌≡◌, ℕ, ◌+◌, ◌<◌, List, Bool}
 use Rattle.scenario_read.specs.declared.scenario.Scenario.{Scenario}
-use Rattle.file_disk.specs.Devices.{DeviceState, IsRefused}
+use Rattle.file_disk.specs.Devices.{DeviceState, HasOpened, IsRefused}
 use Rattle.file_disk.specs.declared.device.OpenFault.{OpenFault}
 use Rattle.file_disk.specs.declared.device.OpenFault.TheVariants as opening
 use Rattle.stored_disks.specs.Disks.{Disks, part_count}
@@ -16,29 +16,31 @@ use Rattle.scenario_disks.specs.declared.stop.DisksStop.TheVariants as stops
 abbrev pub AreTooMany : ℕ → Disks → Type 0
 AreTooMany parts s = (parts ≡ part_count s.catalogue s.pieces) × (most_parts < parts)
 
--- Why the disks of a scenario are not in an image: they have too many parts, and nothing was done; the image exists, and
--- the device counted that; a call of the device failed; or what was read of a part is other than what was stored.
-abbrev pub KeepCause : Scenario → List (List ℕ) → Bool → DeviceState → DeviceState → DisksStop
-    → Type 0
-KeepCause s library over old new (stops.TooMany parts) =
+-- Why the disks of a scenario are not in the image of a name: they have too many parts, and nothing was done; the image
+-- exists, and the device counted that; a call of the device failed; or what was read of a part, of the image of this name, is
+-- other than what was stored.
+abbrev pub KeepCause : List ℕ → Scenario → List (List ℕ) → Bool → DeviceState → DeviceState
+    → DisksStop → Type 0
+KeepCause name s library over old new (stops.TooMany parts) =
     (new ≡ old) × OfScenario s library (AreTooMany parts)
-KeepCause s library over old new stops.Exists = IsRefused over old new
-KeepCause s library over old new stops.Device = new.faults ≡ old.faults + 1
-KeepCause s library over old new (stops.Damaged disk at kept found) =
-    (new.faults ≡ old.faults)
+KeepCause name s library over old new stops.Exists = IsRefused over old new
+KeepCause name s library over old new stops.Device = new.faults ≡ old.faults + 1
+KeepCause name s library over old new (stops.Damaged disk at kept found) =
+    (new.faults ≡ old.faults) × HasOpened name old new
     × OfScenario s library (λ disks. IsPartDamaged disks old.told disk.0 at kept found)
-KeepCause s library over old new stops.NoMemory = new.faults ≡ old.faults
+KeepCause name s library over old new stops.NoMemory = new.faults ≡ old.faults
 
 -- ---- parts of it
 
 -- why disks that are not too many are not in an image
-abbrev pub ImageCause : Disks → Bool → DeviceState → DeviceState → DisksStop → Type 0
-ImageCause s over old new (stops.TooMany parts) = ⊥
-ImageCause s over old new stops.Exists = IsRefused over old new
-ImageCause s over old new stops.Device = new.faults ≡ old.faults + 1
-ImageCause s over old new (stops.Damaged disk at kept found) =
-    (new.faults ≡ old.faults) × IsPartDamaged s old.told disk.0 at kept found
-ImageCause s over old new stops.NoMemory = new.faults ≡ old.faults
+abbrev pub ImageCause : List ℕ → Disks → Bool → DeviceState → DeviceState → DisksStop → Type 0
+ImageCause name s over old new (stops.TooMany parts) = ⊥
+ImageCause name s over old new stops.Exists = IsRefused over old new
+ImageCause name s over old new stops.Device = new.faults ≡ old.faults + 1
+ImageCause name s over old new (stops.Damaged disk at kept found) =
+    (new.faults ≡ old.faults) × HasOpened name old new
+    × IsPartDamaged s old.told disk.0 at kept found
+ImageCause name s over old new stops.NoMemory = new.faults ≡ old.faults
 
 -- ---- what a fault below is here
 

@@ -3,7 +3,7 @@ ghost use Rattle.std.specs.Prelude.{◌≡◌, ◌+◌, ◌^◌, ◌≤◌, All,
 ghost use Rattle.tiger_base.specs.Limits.{most_file};
 ghost use Rattle.disk_image.specs.Image.{HasLengths};
 ghost use Rattle.scenario_read.specs.Sound.{IsScenario};
-ghost use Rattle.file_disk.specs.Devices.{most_counted};
+ghost use Rattle.file_disk.specs.Devices.{OpensOnly, most_counted};
 ghost use Rattle.stored_disks.specs.Disks.{disks_of, part_count};
 ghost use Rattle.scenario_disks.specs.Images.{OfScenario, AreInImage, all_lines, most_parts};
 ghost use Rattle.scenario_disks.specs.Stops.{ImageCause, KeepCause};
@@ -41,11 +41,14 @@ pub fn keep_disks<V: Device>(
     // All disks of the scenario are in the image, and the text tells of each.
     ensures kept { let old = V.state dev.old in let new = V.state dev.new in
         IfOk result (λ text. OfScenario scenario.now library.now
-        (λ disks. AreInImage disks old new × (string_bytes text ≡ all_lines disks))) }
+        (λ disks. AreInImage image.now disks old new × (string_bytes text ≡ all_lines disks))) }
 
     // An error comes for its cause alone.
     ensures cause { let old = V.state dev.old in
-        IfErr result (KeepCause scenario.now library.now over old (V.state dev.new)) }
+        IfErr result (KeepCause image.now scenario.now library.now over old (V.state dev.new)) }
+
+    // No image is opened but that of the name.
+    ensures names { OpensOnly image.now (V.state dev.old) (V.state dev.new) }
 {
     let cat = catalogue_of(alloc, scenario, library)?;
     let pieces = scenario.course.plan.params.pieces as u32;
@@ -76,11 +79,12 @@ fn in_image<V: Device>(
     requires reads { (V.state dev.old).reads ≤ 2 ^ 63 }
     requires refusals { (V.state dev.old).refusals ≤ most_counted }
     ensures kept { let disks = disks_of library.now cat.now pieces in
-        IfOk result (λ _. AreInImage disks (V.state dev.old) (V.state dev.new)) }
+        IfOk result (λ _. AreInImage image.now disks (V.state dev.old) (V.state dev.new)) }
     ensures lines { let disks = disks_of library.now cat.now pieces in
         IfOk result (λ text. string_bytes text ≡ all_lines disks) }
     ensures cause { let disks = disks_of library.now cat.now pieces in
-        IfErr result (ImageCause disks over (V.state dev.old) (V.state dev.new)) }
+        IfErr result (ImageCause image.now disks over (V.state dev.old) (V.state dev.new)) }
+    ensures names { OpensOnly image.now (V.state dev.old) (V.state dev.new) }
 {
     dev.open(image, over)?;
     Ok(store_disks(alloc, library, cat, pieces, dev)?)

@@ -23,8 +23,9 @@ use Rattle.stored_disks.specs.declared.fault.DisksFault.TheVariants as faults
 use Rattle.stored_disks.proofs.ReadParts.{reads-of}
 use Rattle.stored_disks.proofs.StoredParts.{stored-in, tells-none, length-placed}
 
--- so many reads were answered, and nothing else was counted
+-- so many reads were answered, nothing else was counted, and no image was opened
 pub record HaveCounted (old new : DeviceState) (n : ℕ) : Type 0 where
+  pub names : new.names ≡ old.names
   pub faults : new.faults ≡ old.faults
   pub reads : new.reads ≡ old.reads + n
   pub refusals : new.refusals ≡ old.refusals
@@ -34,6 +35,7 @@ disk-counted s d a b k =
     let reads = reads-of k.stored b (extents_on s d) k.read in
     let number = length-placed (start_of s d) (parts_on s d) in
     record {
+      names = reads.names ∙ k.written.names;
       faults = reads.faults ∙ k.written.faults;
       reads = omega (arith, reads.reads, k.written.reads, number);
       refusals = reads.refusals ∙ k.written.refusals;
@@ -42,6 +44,7 @@ disk-counted s d a b k =
 pub disks-counted : (s : Disks) (n : ℕ) (a b : DeviceState) → AreDisksKept s n a b → HaveCounted a b (parts_before s n)
 disks-counted s zero a b k =
     record {
+      names = ap (λ (x : DeviceState). x.names) k;
       faults = ap (λ (x : DeviceState). x.faults) k;
       reads = omega (arith, ap (λ (x : DeviceState). x.reads) k);
       refusals = ap (λ (x : DeviceState). x.refusals) k;
@@ -50,6 +53,7 @@ disks-counted s (suc n) a b k =
     let first = disks-counted s n a k.0 k.1 in
     let last = disk-counted s n k.0 b k.2 in
     record {
+      names = last.names ∙ first.names;
       faults = last.faults ∙ first.faults;
       reads = omega (arith, first.reads, last.reads);
       refusals = last.refusals ∙ first.refusals;
@@ -187,6 +191,10 @@ store-cause s a b at len storing.NoMemory cause = omega (arith, cause.faults)
 pub store-refuses : (a b : DeviceState) (at len : ℕ) (fault : StoreFault) → StoreCause a b at len fault → b.refusals ≡ a.refusals
 store-refuses a b at len storing.Failed cause = cause.refusals
 store-refuses a b at len storing.NoMemory cause = cause.refusals
+
+pub store-opens-none : (a b : DeviceState) (at len : ℕ) (fault : StoreFault) → StoreCause a b at len fault → b.names ≡ a.names
+store-opens-none a b at len storing.Failed cause = cause.names
+store-opens-none a b at len storing.NoMemory cause = cause.names
 
 -- one disk more
 pub more-kept : (s : Disks) (d : ℕ) (a b c : DeviceState) → AreDisksKept s d a b → IsDiskKept s d b c → AreDisksKept s (d + 1) a c

@@ -1,5 +1,6 @@
 -- What reading parts leaves as it was, and why it ends.
-use Rattle.std.proofs.Common.{◌≡◌, ℕ, ◌+◌, List, [], ◌∷◌, ◌++◌, length, take, Option, Some, slice_get, refl, sym, ap, ◌∙◌, subst, arith}
+use Rattle.std.proofs.Common.{◌≡◌, ℕ, zero, suc, ◌+◌, List, [], ◌∷◌, ◌++◌, length, take, Option, Some, slice_get, refl, sym, ap, ◌∙◌, subst, arith}
+use Rattle.std.specs.List.{AllByRecursion}
 use Rattle.std.proofs.lemmas.List.{take_more}
 use Rattle.std.proofs.lemmas.Option.{slice_get_within, get_or_from_slice_get}
 use Rattle.tiger_base.specs.declared.number.DiskNo.{DiskNo}
@@ -17,6 +18,7 @@ use Rattle.stored_disks.specs.declared.fault.DisksFault.TheVariants as faults
 -- so many reads were answered, and nothing else changed
 pub record AreReads (old new : DeviceState) (n : ℕ) : Type 0 where
   pub told : new.told ≡ old.told
+  pub names : new.names ≡ old.names
   pub faults : new.faults ≡ old.faults
   pub reads : new.reads ≡ old.reads + n
   pub refusals : new.refusals ≡ old.refusals
@@ -25,6 +27,7 @@ pub reads-of : (a b : DeviceState) (es : List Extent) → ArePartsRead a b es �
 reads-of a b [] r =
     record {
       told = ap (λ (s : DeviceState). s.told) r;
+      names = ap (λ (s : DeviceState). s.names) r;
       faults = ap (λ (s : DeviceState). s.faults) r;
       reads = omega (arith, ap (λ (s : DeviceState). s.reads) r);
       refusals = ap (λ (s : DeviceState). s.refusals) r;
@@ -34,6 +37,7 @@ reads-of a b (e ∷ es) r =
     let rest = reads-of r.0 b es r.2 in
     record {
       told = rest.told ∙ one.told;
+      names = rest.names ∙ one.names;
       faults = rest.faults ∙ one.faults;
       reads = omega (arith, rest.reads, one.reads);
       refusals = rest.refusals ∙ one.refusals;
@@ -72,6 +76,18 @@ pub fetch-refuses : (e : Extent) (a b : DeviceState) (fault : FetchFault) → Fe
 fetch-refuses e a b fetching.Failed cause = cause.refusals
 fetch-refuses e a b (fetching.Damaged at kept found) cause = cause.read.refusals
 fetch-refuses e a b fetching.NoMemory cause = ap (λ (s : DeviceState). s.refusals) cause
+
+pub fetch-opens-none : (e : Extent) (a b : DeviceState) (fault : FetchFault) → FetchCause (Some e) a b fault → b.names ≡ a.names
+fetch-opens-none e a b fetching.Failed cause = cause.names
+fetch-opens-none e a b (fetching.Damaged at kept found) cause = cause.read.names
+fetch-opens-none e a b fetching.NoMemory cause = ap (λ (s : DeviceState). s.names) cause
+
+-- what holds of each of some parts holds of that of a number
+pub element-at : (P : Extent → Type 0) (es : List Extent) (i : ℕ) (e : Extent) → AllByRecursion P es → slice_get es i ≡ Some e → P e
+element-at P [] i e all there = absurd (cc)
+element-at P (x ∷ es) zero e all there =
+    let same : x ≡ e = cc in subst P same all.0
+element-at P (x ∷ es) (suc i) e all there = element-at P es i e all.1 there
 
 -- why a part behind others was not read
 behind : (disk : DiskNo) (es : List Extent) (n k : ℕ) (e : Extent) (a b c : DeviceState) (fault : DisksFault) → slice_get es n ≡ Some e

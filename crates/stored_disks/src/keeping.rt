@@ -60,6 +60,7 @@ pub fn store_disks<V: Device>(
         IfErr result (DisksCause disks (V.state dev.old) (V.state dev.new)) }
 
     // No image was asked for.
+    ensures names { (V.state dev.new).names ≡ (V.state dev.old).names }
     ensures refusals { (V.state dev.new).refusals ≡ (V.state dev.old).refusals }
 {
     let mut text = String::new(alloc);
@@ -99,10 +100,11 @@ fn keep_disk<V: Device>(
         IfOk result (λ _. IsDiskKept disks disk.0 (V.state dev.old) (V.state dev.new)) }
     ensures cause { let disks = disks_of library.now cat.now pieces in
         IfErr result (DisksCause disks (V.state dev.old) (V.state dev.new)) }
+    ensures names { (V.state dev.new).names ≡ (V.state dev.old).names }
     ensures refusals { (V.state dev.new).refusals ≡ (V.state dev.old).refusals }
 {
     let image = DiskImage::build(alloc, library, cat, pieces, disk)?;
     let dir = store(alloc, &image, cat, disk, at, dev)?;
-    read_parts(alloc, disk, &dir, dev)?;
+    read_parts(alloc, &image, disk, &dir, dev)?;
     Ok(dir)
 }

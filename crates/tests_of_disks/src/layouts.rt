@@ -20,12 +20,12 @@ struct Forgetful {
 }
 
 impl Model for Forgetful {
-    ghost use Rattle.std.specs.Prelude.{None};
+    ghost use Rattle.std.specs.Prelude.{[], None};
     ghost use Rattle.file_disk.specs.Devices.{DeviceState};
 
     ghost Value = { DeviceState };
 
-    ghost view = { λ d. record { told = None; faults = d.faults; reads = d.reads; refusals = 0 } };
+    ghost view = { λ d. record { told = None; names = []; faults = d.faults; reads = d.reads; refusals = 0 } };
 }
 
 impl Device for Forgetful {

@@ -2,7 +2,7 @@
 use Rattle.std.specs.Prelude.{◌≡◌, ℕ, ◌+◌, Bool, List, length, ◌⊎◌}
 use Rattle.outside.specs.Told.{FilesState}
 use Rattle.outside.specs.Written.{SinkState}
-use Rattle.file_disk.specs.Devices.{DeviceState, IsRefused}
+use Rattle.file_disk.specs.Devices.{DeviceState, HasOpened, IsRefused}
 use Rattle.stored_disks.specs.Disks.{Disks}
 use Rattle.stored_disks.specs.Faults.{IsPartDamaged}
 use Rattle.scenario_read.specs.Fault.{exceeded}
@@ -44,16 +44,20 @@ abbrev pub InputEnd : List ℕ → FilesState → FilesState → DisksStatus →
 InputEnd name old new (ends.Run status) = RunEnd name old new status
 InputEnd name old new _ = Unit {0}
 
--- why a device ended the command; and with lines that could not be written the image is whole
-abbrev pub DeviceEnd : List ℕ → FilesState → FilesState → Bool → DeviceState → DeviceState
+-- Why a device ended the command that was given the names of a scenario and of an image; and with lines that could not be
+-- written the image is whole.
+abbrev pub DeviceEnd : List ℕ → List ℕ → FilesState → FilesState → Bool → DeviceState → DeviceState
     → DisksStatus → Type 0
-DeviceEnd name old new over device device_new ends.Device = device_new.faults ≡ device.faults + 1
-DeviceEnd name old new over device device_new (ends.Damaged disk at kept found) =
-    OfInputs old new name (λ disks. IsPartDamaged disks device.told disk.0 at kept found)
-DeviceEnd name old new over device device_new ends.ImageExists = IsRefused over device device_new
-DeviceEnd name old new over device device_new (ends.Run statuses.WriteFault) =
-    OfInputs old new name (λ disks. AreInImage disks device device_new)
-DeviceEnd name old new over device device_new (ends.Run status) = Unit {0}
+DeviceEnd name image old new over device device_new ends.Device =
+    device_new.faults ≡ device.faults + 1
+DeviceEnd name image old new over device device_new (ends.Damaged disk at kept found) =
+    HasOpened image device device_new
+    × OfInputs old new name (λ disks. IsPartDamaged disks device.told disk.0 at kept found)
+DeviceEnd name image old new over device device_new ends.ImageExists =
+    IsRefused over device device_new
+DeviceEnd name image old new over device device_new (ends.Run statuses.WriteFault) =
+    OfInputs old new name (λ disks. AreInImage image disks device device_new)
+DeviceEnd name image old new over device device_new (ends.Run status) = Unit {0}
 
 -- what was written if not all was done: a front of the lines, or nothing
 abbrev pub SinkEnd : List ℕ → FilesState → FilesState → SinkState → SinkState → DisksStatus → Type 0

@@ -1,7 +1,7 @@
 //! Reads a scenario and its files, and keeps its disks in an image.
 ghost use Rattle.std.specs.Prelude.{◌≡◌, ◌+◌, ◌^◌, ◌≤◌, OnOk, IfErr};
 ghost use Rattle.outside.specs.Written.{most_faults};
-ghost use Rattle.file_disk.specs.Devices.{most_counted};
+ghost use Rattle.file_disk.specs.Devices.{OpensOnly, most_counted};
 ghost use Rattle.scenario_disks.specs.Images.{AreInImage, all_lines};
 ghost use Rattle.tiger_input.specs.Inputs.{most_earlier, most_reads};
 ghost use Rattle.tiger_input.specs.Ending.{IsWritten};
@@ -31,11 +31,11 @@ pub fn write_disks<F: Files, K: Sink, V: Device>(
     requires device_reads { (V.state dev.old).reads ≤ 2 ^ 63 }
     requires refusals { (V.state dev.old).refusals ≤ most_counted }
 
-    // All was done: the scenario and its files were read, all of its disks are in the image, each part was read once and
-    // is as it was stored, and the lines of the disks were written.
+    // All was done: the scenario and its files were read, all of its disks are in the image of this name, each part was
+    // read once and is as it was stored, and the lines of the disks were written.
     ensures done { let device = V.state dev.old in let out_old = K.state out.old in
         OnOk result (OfInputs (F.state files.old) (F.state files.new) name.now
-        (λ disks. AreInImage disks device (V.state dev.new)
+        (λ disks. AreInImage image.now disks device (V.state dev.new)
         × IsWritten out_old (K.state out.new) (all_lines disks))) }
 
     // Why an input was refused: it is the first, in the order of work, that is not as it should be.
@@ -46,7 +46,11 @@ pub fn write_disks<F: Files, K: Sink, V: Device>(
     // counts too; or what it gave of a part is other than what was stored there, and it does not tell its bytes. If only
     // the lines could not be written, all disks are in the image.
     ensures device { let old = F.state files.old in let device = V.state dev.old in
-        IfErr result (DeviceEnd name.now old (F.state files.new) over device (V.state dev.new)) }
+        let new = F.state files.new in
+        IfErr result (DeviceEnd name.now image.now old new over device (V.state dev.new)) }
+
+    // No image is opened but that of the name.
+    ensures names { OpensOnly image.now (V.state dev.old) (V.state dev.new) }
 
     // What was written with each status.
     ensures sink { let old = F.state files.old in let out_old = K.state out.old in

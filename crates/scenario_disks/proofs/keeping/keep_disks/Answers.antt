@@ -17,9 +17,9 @@ in_image-requires-clause-short g c = short-files most_file c.args.library.now c.
 pub returns-clause-kept : goal.returns-clause-kept
 returns-clause-kept g c =
     let state = g.V.Device.state in
-    kept-of c.args.scenario.now c.args.library.now c.in_ok-cat.cat c.in_image.result (state c.args.dev.now) (state c.in_image.new.dev) c.in_ok-cat.ensures c.in_image.ensures.kept c.in_image.ensures.lines
+    kept-of c.args.image.now c.args.scenario.now c.args.library.now c.in_ok-cat.cat c.in_image.result (state c.args.dev.now) (state c.in_image.new.dev) c.in_ok-cat.ensures c.in_image.ensures.kept c.in_image.ensures.lines
 
 pub returns-clause-cause : goal.returns-clause-cause
 returns-clause-cause g c =
     let state = g.V.Device.state in
-    cause-of c.args.scenario.now c.args.library.now c.in_ok-cat.cat c.args.over c.in_image.result (state c.args.dev.now) (state c.in_image.new.dev) c.in_ok-cat.ensures c.in_image.ensures.cause
+    cause-of c.args.image.now c.args.scenario.now c.args.library.now c.in_ok-cat.cat c.args.over c.in_image.result (state c.args.dev.now) (state c.in_image.new.dev) c.in_ok-cat.ensures c.in_image.ensures.cause

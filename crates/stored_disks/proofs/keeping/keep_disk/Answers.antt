@@ -2,7 +2,7 @@ use Rattle.std.proofs.Common.{◌∙◌, length, ap, arith}
 use Rattle.std.proofs.lemmas.Result.{err_from_is_err_and}
 use Rattle.stored_disks.specs.Disks.{disks_of, start_of, parts_on}
 use Rattle.stored_disks.proofs.StoredParts.{length-placed}
-use Rattle.stored_disks.proofs.KeptDisks.{kept-disk, kept-extents, not-read, store-cause, store-refuses}
+use Rattle.stored_disks.proofs.KeptDisks.{kept-disk, kept-extents, not-read, store-cause, store-refuses, store-opens-none}
 use Rattle.stored_disks.proofs.keeping.keep_disk.Goals as goal
 
 pub read_parts-requires-clause-reads : goal.read_parts-requires-clause-reads
@@ -22,6 +22,11 @@ pub returns-in_err-dir-clause-refusals : goal.returns-in_err-dir-clause-refusals
 returns-in_err-dir-clause-refusals g c =
     let state = g.V.Device.state in
     store-refuses (state c.args.dev.now) (state c.store.new.dev) c.args.at _ c.in_err-dir.field-0.0 c.in_err-dir.ensures.cause
+
+pub returns-in_err-dir-clause-names : goal.returns-in_err-dir-clause-names
+returns-in_err-dir-clause-names g c =
+    let state = g.V.Device.state in
+    store-opens-none (state c.args.dev.now) (state c.store.new.dev) c.args.at _ c.in_err-dir.field-0.0 c.in_err-dir.ensures.cause
 
 pub returns-in_err-read_parts-clause-cause : goal.returns-in_err-read_parts-clause-cause
 returns-in_err-read_parts-clause-cause g c =

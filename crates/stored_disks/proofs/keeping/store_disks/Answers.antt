@@ -64,6 +64,13 @@ returns-in_err-dir-clause-refusals g c =
     let k = disks-counted disks c.loop-disk.disk (state c.args.dev.now) (state c.loop-disk.dev) c.loop-disk.invariant.kept in
     c.keep_disk.ensures.refusals ∙ k.refusals
 
+pub returns-in_err-dir-clause-names : goal.returns-in_err-dir-clause-names
+returns-in_err-dir-clause-names g c =
+    let state = g.V.Device.state in
+    let disks = disks_of c.args.library.now c.args.cat.now c.args.pieces in
+    let k = disks-counted disks c.loop-disk.disk (state c.args.dev.now) (state c.loop-disk.dev) c.loop-disk.invariant.kept in
+    c.keep_disk.ensures.names ∙ k.names
+
 -- there was no memory for its line
 pub returns-in_err-push_disk-clause-cause : goal.returns-in_err-push_disk-clause-cause
 returns-in_err-push_disk-clause-cause g c =
@@ -80,6 +87,13 @@ returns-in_err-push_disk-clause-refusals g c =
     let disks = disks_of c.args.library.now c.args.cat.now c.args.pieces in
     let k = disks-counted disks c.loop-disk.disk (state c.args.dev.now) (state c.loop-disk.dev) c.loop-disk.invariant.kept in
     c.keep_disk.ensures.refusals ∙ k.refusals
+
+pub returns-in_err-push_disk-clause-names : goal.returns-in_err-push_disk-clause-names
+returns-in_err-push_disk-clause-names g c =
+    let state = g.V.Device.state in
+    let disks = disks_of c.args.library.now c.args.cat.now c.args.pieces in
+    let k = disks-counted disks c.loop-disk.disk (state c.args.dev.now) (state c.loop-disk.dev) c.loop-disk.invariant.kept in
+    c.keep_disk.ensures.names ∙ k.names
 
 -- all are kept
 pub returns-clause-kept : goal.returns-clause-kept
@@ -131,3 +145,9 @@ returns-clause-refusals g c =
     let state = g.V.Device.state in
     let disks = disks_of c.args.library.now c.args.cat.now c.args.pieces in
     (disks-counted disks c.loop-disk.disk (state c.args.dev.now) (state c.loop-disk.dev) c.loop-disk.invariant.kept).refusals
+
+pub returns-clause-names : goal.returns-clause-names
+returns-clause-names g c =
+    let state = g.V.Device.state in
+    let disks = disks_of c.args.library.now c.args.cat.now c.args.pieces in
+    (disks-counted disks c.loop-disk.disk (state c.args.dev.now) (state c.loop-disk.dev) c.loop-disk.invariant.kept).names

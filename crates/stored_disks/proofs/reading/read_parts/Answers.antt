@@ -7,7 +7,7 @@ use Rattle.stored_disks.proofs.ReadParts.{reads-of, read-turn, cause-behind}
 use Rattle.stored_disks.proofs.reading.read_parts.Goals as goal
 
 pub loop-number-init : goal.loop-number-init
-loop-number-init g c = record { read = refl; refusals = refl }
+loop-number-init g c = record { read = refl; names = refl; refusals = refl }
 
 pub read_number-requires-clause-faults : goal.read_number-requires-clause-faults
 read_number-requires-clause-faults g c =
@@ -30,6 +30,7 @@ loop-number-preserved g c =
     let state = g.V.Device.state in
     record {
       read = read-turn (state c.args.dev.now) (state c.loop-number.dev) (state c.read_number.new.dev) c.args.dir.now c.loop-number.number c.loop-number.invariant.read c.in_ok-read_number.ensures.read;
+      names = c.read_number.ensures.names ∙ c.loop-number.invariant.names;
       refusals = c.read_number.ensures.refusals ∙ c.loop-number.invariant.refusals;
     }
 

@@ -21,7 +21,7 @@ returns-in_err-inputs-clause-device g c =
     let p = err_from_is_err_and c.from_residual.result c.from_residual.ensures.1 in
     let state = g.F.Files.state in
     let device = g.V.Device.state in
-    rw (p.1, p.2) (refused-device c.in_err-inputs.field-0.0 c.args.name.now (state c.args.files.now) (state c.read_inputs.new.files) c.args.over (device c.args.dev.now) (device c.args.dev.now) c.in_err-inputs.ensures.cause)
+    rw (p.1, p.2) (refused-device c.in_err-inputs.field-0.0 c.args.name.now c.args.image.now (state c.args.files.now) (state c.read_inputs.new.files) c.args.over (device c.args.dev.now) (device c.args.dev.now) c.in_err-inputs.ensures.cause)
 
 -- the disks were not kept
 pub returns-in_err-text-clause-input : goal.returns-in_err-text-clause-input
@@ -29,7 +29,7 @@ returns-in_err-text-clause-input g c =
     let p = err_from_is_err_and c.from_residual-in_err-text.result c.from_residual-in_err-text.ensures.1 in
     let state = g.F.Files.state in
     let device = g.V.Device.state in
-    rw (p.1, p.2) (stopped-input c.in_err-text.field-0.0 c.args.name.now (state c.args.files.now) (state c.read_inputs.new.files) c.in_ok-inputs.inputs c.args.over (device c.args.dev.now) (device c.keep_disks.new.dev)
+    rw (p.1, p.2) (stopped-input c.in_err-text.field-0.0 c.args.name.now c.args.image.now (state c.args.files.now) (state c.read_inputs.new.files) c.in_ok-inputs.inputs c.args.over (device c.args.dev.now) (device c.keep_disks.new.dev)
     c.in_ok-inputs.ensures.read c.in_ok-inputs.ensures.counted c.in_err-text.ensures.cause)
 
 pub returns-in_err-text-clause-device : goal.returns-in_err-text-clause-device
@@ -37,7 +37,7 @@ returns-in_err-text-clause-device g c =
     let p = err_from_is_err_and c.from_residual-in_err-text.result c.from_residual-in_err-text.ensures.1 in
     let state = g.F.Files.state in
     let device = g.V.Device.state in
-    rw (p.1, p.2) (stopped-device c.in_err-text.field-0.0 c.args.name.now (state c.args.files.now) (state c.read_inputs.new.files) c.in_ok-inputs.inputs c.args.over (device c.args.dev.now) (device c.keep_disks.new.dev)
+    rw (p.1, p.2) (stopped-device c.in_err-text.field-0.0 c.args.name.now c.args.image.now (state c.args.files.now) (state c.read_inputs.new.files) c.in_ok-inputs.inputs c.args.over (device c.args.dev.now) (device c.keep_disks.new.dev)
     c.in_ok-inputs.ensures.read c.in_ok-inputs.ensures.counted c.in_err-text.ensures.cause)
 
 pub returns-in_err-text-clause-sink : goal.returns-in_err-text-clause-sink
@@ -50,7 +50,7 @@ pub returns-in_err-text-clause-untouched : goal.returns-in_err-text-clause-untou
 returns-in_err-text-clause-untouched g c =
     let p = err_from_is_err_and c.from_residual-in_err-text.result c.from_residual-in_err-text.ensures.1 in
     let device = g.V.Device.state in
-    rw (p.1, p.2) (stopped-untouched c.in_err-text.field-0.0 c.in_ok-inputs.inputs c.args.over (device c.args.dev.now) (device c.keep_disks.new.dev) c.in_err-text.ensures.cause)
+    rw (p.1, p.2) (stopped-untouched c.in_err-text.field-0.0 c.args.image.now c.in_ok-inputs.inputs c.args.over (device c.args.dev.now) (device c.keep_disks.new.dev) c.in_err-text.ensures.cause)
 
 -- the lines were not written whole
 pub returns-in_err-put_lines-clause-input : goal.returns-in_err-put_lines-clause-input
@@ -64,7 +64,7 @@ returns-in_err-put_lines-clause-device g c =
     let p = err_from_is_err_and c.from_residual-in_err-put_lines.result c.from_residual-in_err-put_lines.ensures.1 in
     let state = g.F.Files.state in
     let device = g.V.Device.state in
-    rw (p.1, p.2) (unwritten-device c.in_err-put_lines.field-0.0 (state c.args.files.now) (state c.read_inputs.new.files) c.args.name.now c.in_ok-inputs.inputs c.args.over (device c.args.dev.now) (device c.keep_disks.new.dev)
+    rw (p.1, p.2) (unwritten-device c.in_err-put_lines.field-0.0 (state c.args.files.now) (state c.read_inputs.new.files) c.args.name.now c.args.image.now c.in_ok-inputs.inputs c.args.over (device c.args.dev.now) (device c.keep_disks.new.dev)
     (string_bytes c.in_ok-text.text) c.in_ok-inputs.ensures.read c.in_ok-inputs.ensures.counted c.in_ok-text.ensures.kept)
 
 pub returns-in_err-put_lines-clause-sink : goal.returns-in_err-put_lines-clause-sink
@@ -74,7 +74,7 @@ returns-in_err-put_lines-clause-sink g c =
     let device = g.V.Device.state in
     let out = g.K.Sink.state in
     let cause = rw c.as_bytes.ensures.value at c.in_err-put_lines.ensures.cause in
-    rw (p.1, p.2) (unwritten-sink c.in_err-put_lines.field-0.0 (state c.args.files.now) (state c.read_inputs.new.files) c.args.name.now c.in_ok-inputs.inputs (device c.args.dev.now) (device c.keep_disks.new.dev)
+    rw (p.1, p.2) (unwritten-sink c.in_err-put_lines.field-0.0 (state c.args.files.now) (state c.read_inputs.new.files) c.args.name.now c.args.image.now c.in_ok-inputs.inputs (device c.args.dev.now) (device c.keep_disks.new.dev)
     (out c.args.out.now) (out c.put_lines.new.out) (string_bytes c.in_ok-text.text) c.in_ok-inputs.ensures.read c.in_ok-inputs.ensures.counted c.in_ok-text.ensures.kept cause)
 
 -- all was done
@@ -84,5 +84,5 @@ returns-clause-done g c =
     let device = g.V.Device.state in
     let out = g.K.Sink.state in
     let written = rw c.as_bytes.ensures.value at c.in_ok-put_lines.ensures.written in
-    done (state c.args.files.now) (state c.read_inputs.new.files) c.args.name.now c.in_ok-inputs.inputs (device c.args.dev.now) (device c.keep_disks.new.dev)
+    done (state c.args.files.now) (state c.read_inputs.new.files) c.args.name.now c.args.image.now c.in_ok-inputs.inputs (device c.args.dev.now) (device c.keep_disks.new.dev)
     (out c.args.out.now) (out c.put_lines.new.out) (string_bytes c.in_ok-text.text) c.in_ok-inputs.ensures.read c.in_ok-inputs.ensures.counted c.in_ok-text.ensures.kept written
