@@ -7,4 +7,5 @@ mod run;
 
 pub use making::make_spare_nodes;
 pub use nodes::SpareNode;
-pub use run::{SpareRun, run_spare};
+pub use run::run_spare;
+pub use whole_run::WholeRun;

@@ -1,7 +1,7 @@
 //! How calls that check a scenario over files and an output in memory end, and which conditions of plans are false.
 ghost use Rattle.std.specs.Prelude.{◌≡◌, IfOk};
 
-use crate::commands::{ending, plan_sink};
+use crate::commands::{ending, plan_sink, split_words};
 use file_disk::MemDevice;
 use node_kit::OpenGate;
 use outside::MemFiles;
@@ -10,6 +10,9 @@ use std::sync::Wait;
 use std::test::Fail;
 use std::thread::Threads;
 use tiger_top::tiger_top;
+
+/// The words of each call here.
+const CHECK: &str = "check scenario";
 
 /// A scenario of the small ring, in which `SLOTS`, `PLAY`, `WINDOW`, `CUBS` and `EVENTS` stand for what a story has there.
 const SCENARIO: &str =
@@ -51,18 +54,17 @@ fn one_file(alloc: Global, scenario: Vec<u8>) -> Result<MemFiles, Fail>
     Ok(files)
 }
 
-/// How the check of a scenario ends, of which a put fails if that is said.
-fn ending_of<R: Threads + Wait + Sync>(
+/// How the call that these words make over a scenario ends, of which a put fails if that is said.
+pub(super) fn ending_of<R: Threads + Wait + Sync>(
     rt: &R,
     alloc: Global,
+    line: &str,
     scenario: Vec<u8>,
     fails: bool,
 ) -> Result<Vec<u8>, Fail> {
     let mut files = one_file(alloc, scenario)?;
     let mut out = plan_sink(alloc, if fails { Some(0) } else { None })?;
-    let mut words = Vec::new(alloc);
-    words.push(String::from_str(alloc, "check")?)?;
-    words.push(String::from_str(alloc, "scenario")?)?;
+    let words = split_words(alloc, line)?;
     let mut dev = MemDevice::new(alloc);
     let ended = tiger_top(rt, alloc, &words, &mut files, &mut out, &mut dev, &OpenGate);
     ending(alloc, &ended, out.bytes())
@@ -83,7 +85,7 @@ fn scenario_of(alloc: Global, story: &str) -> Result<Vec<u8>, Fail> {
 /// Whether a story ends as it says.
 fn is_as_told<R: Threads + Wait + Sync>(rt: &R, alloc: Global, story: &str) -> Result<bool, Fail> {
     let (said, wanted) = story.split_once('\n').ok_or("no end")?;
-    let told = ending_of(rt, alloc, scenario_of(alloc, said)?, false)?;
+    let told = ending_of(rt, alloc, CHECK, scenario_of(alloc, said)?, false)?;
     Ok(told.as_slice().trim_ascii_end() == wanted.as_bytes())
 }
 
@@ -109,7 +111,8 @@ fn a_put_that_fails_is_a_write_fault_with_and_without_conditions(
             "6 tiger: write fault\ncon",
         ),
     ] {
-        let told = ending_of(&rt, rt.alloc(), scenario_of(rt.alloc(), story)?, true)?;
+        let scenario = scenario_of(rt.alloc(), story)?;
+        let told = ending_of(&rt, rt.alloc(), CHECK, scenario, true)?;
         assert!(rt; told.as_slice() == wanted.as_bytes());
     }
     Ok(())

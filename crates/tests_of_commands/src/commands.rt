@@ -71,7 +71,7 @@ pub(super) fn plan_sink(alloc: Global, failing: Option<u64>) -> Result<MemSink, 
     Ok(out)
 }
 
-fn split_words(alloc: Global, line: &str) -> Result<Vec<String>, Fail> {
+pub(super) fn split_words(alloc: Global, line: &str) -> Result<Vec<String>, Fail> {
     let mut words = Vec::new(alloc);
     for word in line.split_ascii_whitespace() {
         words.push(String::from_str(alloc, word)?)?;

@@ -15,4 +15,6 @@ mod networks;
 #[cfg(test)]
 mod readings;
 #[cfg(test)]
+mod spares;
+#[cfg(test)]
 mod texts;

@@ -13,17 +13,13 @@ use crate::status::Refusal;
 use outside::Files;
 use scenario_read::{ReadStop, ScenarioFault, read_scenario};
 use std::alloc::Global;
-use tiger_base::Library;
-use tiger_input::{Inputs, Status, first_empty, read_files, read_one};
+use tiger_input::{Inputs, Status, read_library, read_one};
 
 /// The most bytes of a scenario.
 const MOST_SCENARIO: u64 = 4194304;
 
 /// The rule that the conditions of the plan hold.
 const CONDITIONS: u32 = 4;
-
-/// The rule that no file is empty.
-const EMPTY_FILE: u32 = 13;
 
 /// A scenario that breaks a rule: its bytes are kept if that is for a condition of the plan.
 fn refusal_of(fault: ScenarioFault, bytes: Vec<u8>) -> Refusal
@@ -64,17 +60,6 @@ pub(crate) fn read_checked<F: Files>(
         Err(ReadStop::Fault(fault)) => return Err(refusal_of(fault, bytes)),
         Err(ReadStop::NoMemory) => return Err(Refusal::Input(Status::NoMemory)),
     };
-    let read = read_files(alloc, files, scenario.files.as_slice())?;
-    if let Some(file) = first_empty(read.as_slice()) {
-        return Err(Refusal::Input(Status::Scenario(ScenarioFault {
-            rule: EMPTY_FILE,
-            item: file as u32,
-            left: 0,
-            right: 0,
-        })));
-    }
-    Ok(Inputs {
-        scenario,
-        library: Library::new(read),
-    })
+    let library = read_library(alloc, files, &scenario)?;
+    Ok(Inputs { scenario, library })
 }

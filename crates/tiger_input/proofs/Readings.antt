@@ -16,8 +16,8 @@ use Rattle.tiger_base.specs.Limits.{most_file}
 use Rattle.scenario_read.specs.Meaning.{Said, meaning}
 use Rattle.tiger_input.specs.declared.status.Status.{Status}
 use Rattle.tiger_input.specs.declared.status.Status.TheVariants as statuses
-use Rattle.tiger_input.specs.Inputs.{AreFirst, AreRead, AreFiles, IsRead, names_of, most_after, first_empty, files_fault}
-use Rattle.tiger_input.specs.Inputs.{StopsAt, StopsAtFile, IsMissing, IsUnread, IsTooLong, FilesCause, OneCause, InputsCause}
+use Rattle.tiger_input.specs.Inputs.{AreFirst, AreRead, AreFiles, IsRead, MadeCalls, names_of, most_after, first_empty}
+use Rattle.tiger_input.specs.Inputs.{StopsAt, StopsAtFile, HasEmptyFile, IsMissing, IsUnread, IsTooLong, FilesCause, LibraryCause, OneCause, InputsCause}
 
 pub AreFirst-push : (told : List ℕ → Told) (names cs : List (List ℕ)) (name c : List ℕ) → AreFirst told names cs → slice_get names (length cs) ≡ Some name → AreTold (told name) c → AreFirst told names (cs ++ c ∷ [])
 AreFirst-push told [] [] name c first at is = absurd (cc)
@@ -111,35 +111,49 @@ StopsAtFile-of old mid name bytes said f P same read means stops = record {
   holds = subst (λ (t : List ℕ → Told). StopsAt t (names_of said.files) f P) same stops;
 }
 
+-- all files were read, and one is empty
+pub empty_file : (lines : List FileLine) (read : List (List ℕ)) (f : ℕ) (old new : FilesState) → MadeCalls (length lines) old new
+    → AreFiles old.told (names_of lines) read → first_empty read ≡ Some f → LibraryCause lines old new (statuses.Scenario (broken 13 f))
+empty_file lines read f old new calls all empty = (calls, read, all, ap (option_map (λ k. broken 13 k)) empty)
+
+-- one was not read
+pub library_refused : (status : Status) (lines : List FileLine) (old new : FilesState) → FilesCause (names_of lines) old new status
+    → LibraryCause lines old new status
+library_refused (statuses.Scenario fault) lines old new cause = absurd cause
+library_refused (statuses.Absent file) lines old new cause = cause
+library_refused (statuses.ReadFault file) lines old new cause = cause
+library_refused (statuses.TooLong file given most) lines old new cause = cause
+library_refused statuses.NoMemory lines old new cause = cause
+library_refused statuses.Done lines old new cause = cause
+library_refused statuses.Words lines old new cause = cause
+library_refused statuses.WriteFault lines old new cause = cause
+
+-- so it is seen from before the scenario was read
+pub HasEmptyFile-of : (fault : ScenarioFault) (said : Said) (old mid new : FilesState) → mid.told ≡ old.told → mid.counts.calls ≡ old.counts.calls + 1
+    → LibraryCause said.files mid new (statuses.Scenario fault) → HasEmptyFile old new fault said
+HasEmptyFile-of fault said old mid new same one cause =
+    (omega (arith, cause.0), cause.1, subst (λ (t : List ℕ → Told). AreFiles t (names_of said.files) cause.1) same cause.2, cause.3)
+
 -- the cause of the files is the inputs' cause
-pub InputsCause-files : (status : Status) (name bytes : List ℕ) (said : Said) (old mid new : FilesState)
+pub InputsCause-library : (status : Status) (name bytes : List ℕ) (said : Said) (old mid new : FilesState)
     → mid.told ≡ old.told → IsRead (old.told name) bytes → meaning bytes ≡ Ok said → mid.counts.calls ≡ old.counts.calls + 1
     → old.counts.faults ≤ mid.counts.faults → old.counts.absences ≤ mid.counts.absences
-    → FilesCause (names_of said.files) mid new status → InputsCause name old new status
-InputsCause-files (statuses.Absent None) name bytes said old mid new same read means one faults absences cause = absurd cause
-InputsCause-files (statuses.Absent (Some f)) name bytes said old mid new same read means one faults absences cause =
+    → LibraryCause said.files mid new status → InputsCause name old new status
+InputsCause-library (statuses.Absent None) name bytes said old mid new same read means one faults absences cause = absurd cause
+InputsCause-library (statuses.Absent (Some f)) name bytes said old mid new same read means one faults absences cause =
     (omega (arith, cause.0), omega (arith, cause.1), StopsAtFile-of old mid name bytes said f.0 IsMissing same read means cause.2)
-InputsCause-files (statuses.ReadFault None) name bytes said old mid new same read means one faults absences cause = absurd cause
-InputsCause-files (statuses.ReadFault (Some f)) name bytes said old mid new same read means one faults absences cause =
+InputsCause-library (statuses.ReadFault None) name bytes said old mid new same read means one faults absences cause = absurd cause
+InputsCause-library (statuses.ReadFault (Some f)) name bytes said old mid new same read means one faults absences cause =
     (omega (arith, cause.0), omega (arith, cause.1), StopsAtFile-of old mid name bytes said f.0 IsUnread same read means cause.2)
-InputsCause-files (statuses.TooLong None given most) name bytes said old mid new same read means one faults absences cause = absurd cause
-InputsCause-files (statuses.TooLong (Some f) given most) name bytes said old mid new same read means one faults absences cause =
+InputsCause-library (statuses.TooLong None given most) name bytes said old mid new same read means one faults absences cause = absurd cause
+InputsCause-library (statuses.TooLong (Some f) given most) name bytes said old mid new same read means one faults absences cause =
     (omega (arith, cause.0), StopsAtFile-of old mid name bytes said f.0 (IsTooLong given most) same read means cause.1)
-InputsCause-files statuses.NoMemory name bytes said old mid new same read means one faults absences cause = tt
-InputsCause-files statuses.Done name bytes said old mid new same read means one faults absences cause = cause
-InputsCause-files statuses.Words name bytes said old mid new same read means one faults absences cause = cause
-InputsCause-files statuses.WriteFault name bytes said old mid new same read means one faults absences cause = cause
-InputsCause-files (statuses.Scenario fault) name bytes said old mid new same read means one faults absences cause = absurd cause
-
--- the rule that no file is empty is broken once all files were read
-pub InputsCause-empty : (name bytes : List ℕ) (said : Said) (read : List (List ℕ)) (f : ℕ) (old mid new : FilesState)
-    → mid.told ≡ old.told → IsRead (old.told name) bytes → meaning bytes ≡ Ok said
-    → new.counts.calls ≡ old.counts.calls + (1 + length said.files) → AreFiles mid.told (names_of said.files) read
-    → first_empty read ≡ Some f → InputsCause name old new (statuses.Scenario (broken 13 f))
-InputsCause-empty name bytes said read f old mid new same is means calls all empty =
-    let files : AreFiles old.told (names_of said.files) read = subst (λ (t : List ℕ → Told). AreFiles t (names_of said.files) read) same all in
-    let fault : files_fault read ≡ Some (broken 13 f) = ap (option_map (λ k. broken 13 k)) empty in
-    inr (record { bytes = bytes; read = is; said = said; means = means; holds = (calls, read, files, fault) })
+InputsCause-library (statuses.Scenario fault) name bytes said old mid new same read means one faults absences cause =
+    inr (record { bytes = bytes; read = read; said = said; means = means; holds = HasEmptyFile-of fault said old mid new same one cause })
+InputsCause-library statuses.NoMemory name bytes said old mid new same read means one faults absences cause = tt
+InputsCause-library statuses.Done name bytes said old mid new same read means one faults absences cause = cause
+InputsCause-library statuses.Words name bytes said old mid new same read means one faults absences cause = cause
+InputsCause-library statuses.WriteFault name bytes said old mid new same read means one faults absences cause = cause
 
 unfound : (n m : ℕ) → cond (nat_lt n m) (Some n) None ≡ None → m ≤ n
 unfound n m none = grind (arith, nat_tests)

@@ -193,3 +193,11 @@ FilesCause names old new (statuses.TooLong file given most) = Numbered file (λ 
     MadeCalls (f + 1) old new × StopsAt old.told names f (IsTooLong given most))
 FilesCause names old new statuses.NoMemory = Unit {0}
 FilesCause names old new _ = ⊥
+
+-- why the files of a scenario were not read, or one of those that were is empty
+abbrev pub LibraryCause : List FileLine → FilesState → FilesState → Status → Type 0
+LibraryCause lines old new (statuses.Scenario fault) =
+    MadeCalls (length lines) old new
+    × (read : List (List ℕ)) × AreFiles old.told (names_of lines) read
+    × (files_fault read ≡ Some fault)
+LibraryCause lines old new status = FilesCause (names_of lines) old new status

@@ -1,13 +1,14 @@
 //! Reading the scenario and its files.
-ghost use Rattle.std.specs.Prelude.{◌≡◌, ◌==◌, ◌+◌, ◌≤◌, All, length, IfOk, IfErr, vec_len};
+ghost use Rattle.std.specs.Prelude.{◌≡◌, ◌==◌, ◌+◌, ◌≤◌, All, None, length, IfOk, IfErr, vec_len};
 ghost use Rattle.std.specs.List.{position};
 ghost use Rattle.tiger_base.specs.Library.{contents};
 ghost use Rattle.tiger_base.specs.Limits.{most_file};
 ghost use Rattle.outside.specs.Told.{AreTold, NeverFell, most_calls};
 ghost use Rattle.scenario_read.specs.Sound.{IsScenario};
 ghost use Rattle.tiger_input.specs.Inputs.{most_named, most_reads, most_earlier};
-ghost use Rattle.tiger_input.specs.Inputs.{names_of, AreRead, AreInputs, MadeCalls};
-ghost use Rattle.tiger_input.specs.Inputs.{OneCause, FilesCause, InputsCause};
+ghost use Rattle.scenario_read.specs.Fault.{broken};
+ghost use Rattle.tiger_input.specs.Inputs.{first_empty, names_of, AreFiles, AreRead, AreInputs, MadeCalls};
+ghost use Rattle.tiger_input.specs.Inputs.{OneCause, FilesCause, LibraryCause, InputsCause};
 
 use crate::status::Status;
 use outside::{FileFault, Files};
@@ -90,10 +91,52 @@ pub fn read_files<F: Files>(
 }
 
 /// The least file that has no bytes.
-pub fn first_empty(read: &[Vec<u8>]) -> Option<usize>
+fn first_empty(read: &[Vec<u8>]) -> Option<usize>
     ensures { result ≡ position (λ v. vec_len v == 0) read.now }
 {
     read.iter().position(|bytes| bytes.is_empty())
+}
+
+/// The files of a scenario, none of which is empty.
+pub fn read_library<F: Files>(
+    alloc: Global,
+    files: &mut F,
+    scenario: &Scenario,
+) -> Result<Library, Status>
+    requires sound { IsScenario scenario.now }
+    requires calls { (F.state files.old).counts.calls ≤ most_earlier + 1 }
+    ensures same { (F.state files.new).told ≡ (F.state files.old).told }
+    ensures counted { let count = length scenario.now.files in
+        IfOk result (λ _. MadeCalls count (F.state files.old) (F.state files.new)) }
+    ensures few_calls { let old = F.state files.old in
+        (F.state files.new).counts.calls ≤ old.counts.calls + length scenario.now.files }
+    ensures never_fell { NeverFell (F.state files.old).counts (F.state files.new).counts }
+    ensures read { let told = (F.state files.old).told in
+        IfOk result (AreFiles told (names_of scenario.now.files)) }
+    ensures full { IfOk result (λ library. first_empty library ≡ None) }
+    ensures files { IfOk result (λ library. length library ≡ length scenario.now.files) }
+    ensures filled { IfOk result (All (λ bytes. 1 ≤ length bytes)) }
+    ensures short { IfOk result (All (λ bytes. length bytes ≤ most_file)) }
+    ensures cause { let old = F.state files.old in
+        IfErr result (LibraryCause scenario.now.files old (F.state files.new)) }
+{
+    let read = read_files(alloc, files, scenario.files.as_slice())?;
+    match first_empty(read.as_slice()) {
+        Some(file) => Err(broken(EMPTY_FILE, file as u32)),
+        None => Ok(Library::new(read)),
+    }
+}
+
+/// The refusal of a scenario by a rule that names no numbers.
+pub fn broken(rule: u32, item: u32) -> Status
+    ensures { result ≡ Status.Scenario (broken rule item) }
+{
+    Status::Scenario(ScenarioFault {
+        rule,
+        item,
+        left: 0,
+        right: 0,
+    })
 }
 
 /// The scenario of this name, and then its files.
@@ -118,17 +161,6 @@ pub fn read_inputs<F: Files>(alloc: Global, files: &mut F, name: &str) -> Result
         Err(ReadStop::Fault(fault)) => return Err(Status::Scenario(fault)),
         Err(ReadStop::NoMemory) => return Err(Status::NoMemory),
     };
-    let read = read_files(alloc, files, scenario.files.as_slice())?;
-    if let Some(file) = first_empty(read.as_slice()) {
-        return Err(Status::Scenario(ScenarioFault {
-            rule: EMPTY_FILE,
-            item: file as u32,
-            left: 0,
-            right: 0,
-        }));
-    }
-    Ok(Inputs {
-        scenario,
-        library: Library::new(read),
-    })
+    let library = read_library(alloc, files, &scenario)?;
+    Ok(Inputs { scenario, library })
 }

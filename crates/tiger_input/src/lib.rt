@@ -8,7 +8,7 @@ mod status;
 mod words;
 mod writing;
 
-pub use inputs::{Inputs, first_empty, read_files, read_inputs, read_one};
+pub use inputs::{Inputs, broken, read_inputs, read_library, read_one};
 pub use status::{Status, exit_of, line_of};
 pub use words::{Command, command_in, workers_of};
 pub use writing::{put_lines, written};

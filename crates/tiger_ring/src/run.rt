@@ -10,21 +10,14 @@ ghost use Rattle.run_claims.specs.Accounts.{account_of};
 ghost use Rattle.run_claims.specs.Claims.{MeetsClaims};
 ghost use Rattle.proof_ring.specs.Beliefs.{BelievesInTime};
 
-use crate::journals::journals_of;
 use node_kit::{Gate, Kept};
-use run_report::{Outcome, digests_of, outcomes};
+use ring_nodes::{AnyNode, make_images, make_nodes};
 use scenario_read::{Scenario, catalogue_of, orders_of};
 use std::alloc::Global;
 use std::sync::Wait;
 use std::thread::Threads;
-use tiger_base::{Library, NoMemory, Sequence};
-
-/// What is kept of a run, and what became of each of its starts.
-#[derive(Drop)]
-pub struct RingRun {
-    pub kept: Kept,
-    pub outcomes: Vec<Outcome>,
-}
+use tiger_base::{Library, Msg, NoMemory};
+use whole_run::{WholeRun, copied, run_nodes};
 
 /// Runs a scenario over its library by so many workers, and keeps what is told of the run. Each read of a
 /// disk passes the gate. Whatever the number of workers is, the same is kept, and it is a list of events
@@ -51,7 +44,7 @@ pub fn run_ring<R: Threads + Wait + Sync, G: Gate + Sync>(
     ensures claims { IfOk result (λ k. MeetsClaims (account_of k)) }
     ensures belief_in_time { IfOk result (λ k. BelievesInTime (account_of k)) }
 {
-    let RingRun { kept, .. } = run_with_outcomes(rt, alloc, scenario, library, gate, workers)?;
+    let WholeRun { kept, .. } = run_with_outcomes(rt, alloc, scenario, library, gate, workers)?;
     Ok(kept)
 }
 
@@ -64,7 +57,7 @@ pub fn run_with_outcomes<R: Threads + Wait + Sync, G: Gate + Sync>(
     library: &Library,
     gate: &G,
     workers: u32,
-) -> Result<RingRun, NoMemory>
+) -> Result<WholeRun, NoMemory>
     requires workers { (1 ≤ workers) × (workers ≤ 64) }
     requires scenario { IsScenario scenario }
     requires files { length library.now ≡ length scenario.files }
@@ -80,30 +73,10 @@ pub fn run_with_outcomes<R: Threads + Wait + Sync, G: Gate + Sync>(
     let catalogue = catalogue_of(alloc, &scenario, library)?;
     let orders = orders_of(alloc, &scenario, &catalogue)?;
     let course = scenario.course;
-    let journals = journals_of(
-        rt,
-        alloc,
-        &course,
-        &catalogue,
-        library,
-        orders.as_slice(),
-        gate,
-        workers,
-    )?;
-    let outcomes = outcomes(
-        alloc,
-        &course,
-        &catalogue,
-        orders.as_slice(),
-        journals.as_slice(),
-    )?;
-    let digests = digests_of(alloc, library, outcomes.as_slice())?;
-    let kept = Kept {
-        course,
-        catalogue,
-        orders,
-        journals,
-        digests: Sequence::new(digests),
-    };
-    Ok(RingRun { kept, outcomes })
+    let images = make_images(alloc, &course.plan, &catalogue, library)?;
+    let given = copied(alloc, orders.as_slice())?;
+    let nodes = make_nodes(alloc, &course, images.as_slice(), given, gate)?;
+    run_nodes::<Msg<'_>, AnyNode<'_, G>, R>(
+        rt, alloc, nodes, course, catalogue, orders, library, workers,
+    )
 }

@@ -6,5 +6,5 @@ pub mod rows;
 mod top;
 
 pub use named::named_run;
-pub use tiger_ring::{RingRun, run_ring};
+pub use tiger_ring::{WholeRun, run_ring};
 pub use top::{Ended, refused, tiger};

@@ -11,7 +11,7 @@ use std::alloc::Global;
 use std::sync::Wait;
 use std::thread::Threads;
 use tiger_input::{Inputs, Status, read_inputs};
-use tiger_ring::{RingRun, run_with_outcomes};
+use tiger_ring::{WholeRun, run_with_outcomes};
 
 /// Reads the scenario of a name and its files, and runs it by so many workers. Nothing of the run is written: that is
 /// left to the caller, since a report is not all that may be asked for. The call may wait for a thread.
@@ -22,7 +22,7 @@ pub fn named_run<R: Threads + Wait + Sync, F: Files, G: Gate + Sync>(
     workers: u32,
     files: &mut F,
     gate: &G,
-) -> Result<RingRun, Status>
+) -> Result<WholeRun, Status>
     requires workers { (1 ≤ workers) × (workers ≤ 64) }
     requires calls { (F.state files.old).counts.calls ≤ most_earlier }
 

@@ -1,19 +1,18 @@
 -- Why an input is refused; if no cub dies none is in the list; and how the command ends.
 use Rattle.std.proofs.Common.{◌≡◌, ℕ, ◌+◌, ◌≤◌, false, List, [], ◌∷◌, length, is_some, Option, Some, None, Ok, refl, ap, subst, inr, arith}
-use Rattle.std.specs.Prelude.{option_map}
 use Rattle.std.specs.List.{AllByRecursion, list_any}
 use Rattle.node_kit.specs.declared.course.Kept.{Kept}
 use Rattle.outside.specs.Told.{Told, FilesState}
 use Rattle.outside.specs.Written.{SinkState}
 use Rattle.scenario_read.specs.declared.scenario.Scenario.{Scenario}
-use Rattle.scenario_read.specs.Fault.{broken}
 use Rattle.scenario_read.specs.Meaning.{Said, meaning}
 use Rattle.scenario_read.specs.Sound.{IsScenario}
 use Rattle.spare_ring.specs.Runs.{IsSpareRun}
 use Rattle.tiger_input.specs.declared.status.Status.{Status}
 use Rattle.tiger_input.specs.declared.status.Status.TheVariants as statuses
-use Rattle.tiger_input.specs.Inputs.{AreFiles, FilesCause, IsMissing, IsRead, IsTooLong, IsUnread, StopsAt, files_fault, first_empty, names_of}
+use Rattle.tiger_input.specs.Inputs.{IsMissing, IsRead, IsTooLong, IsUnread, LibraryCause, StopsAt, names_of}
 use Rattle.tiger_input.specs.Ending.{EndsSink}
+use Rattle.tiger_input.proofs.Readings.{HasEmptyFile-of}
 use Rattle.tiger_journal.proofs.Ends.{length-orders_from}
 use Rattle.tiger_spare.specs.Ends.{EndsSpare, SpareCause, StopsAtCalmFile, lets_die}
 
@@ -29,35 +28,26 @@ calm_stop old mid name bytes said f P same read means calm stops = record {
   holds = (calm, subst (λ (t : List ℕ → Told). StopsAt t (names_of said.files) f P) same stops);
 }
 
--- a file was not read
-pub spare_files : (status : Status) (name bytes : List ℕ) (said : Said) (old mid new : FilesState)
+-- a file was not read, or one is empty
+pub spare_library : (status : Status) (name bytes : List ℕ) (said : Said) (old mid new : FilesState)
     → mid.told ≡ old.told → IsRead (old.told name) bytes → meaning bytes ≡ Ok said → lets_die said.deaths ≡ false
     → mid.counts.calls ≡ old.counts.calls + 1 → old.counts.faults ≤ mid.counts.faults → old.counts.absences ≤ mid.counts.absences
-    → FilesCause (names_of said.files) mid new status → SpareCause name old new status
-spare_files (statuses.Absent None) name bytes said old mid new same read means calm one faults absences cause = absurd cause
-spare_files (statuses.Absent (Some f)) name bytes said old mid new same read means calm one faults absences cause =
+    → LibraryCause said.files mid new status → SpareCause name old new status
+spare_library (statuses.Absent None) name bytes said old mid new same read means calm one faults absences cause = absurd cause
+spare_library (statuses.Absent (Some f)) name bytes said old mid new same read means calm one faults absences cause =
     (omega (arith, cause.0, one), omega (arith, cause.1, absences), calm_stop old mid name bytes said f.0 IsMissing same read means calm cause.2)
-spare_files (statuses.ReadFault None) name bytes said old mid new same read means calm one faults absences cause = absurd cause
-spare_files (statuses.ReadFault (Some f)) name bytes said old mid new same read means calm one faults absences cause =
+spare_library (statuses.ReadFault None) name bytes said old mid new same read means calm one faults absences cause = absurd cause
+spare_library (statuses.ReadFault (Some f)) name bytes said old mid new same read means calm one faults absences cause =
     (omega (arith, cause.0, one), omega (arith, cause.1, faults), calm_stop old mid name bytes said f.0 IsUnread same read means calm cause.2)
-spare_files (statuses.TooLong None given most) name bytes said old mid new same read means calm one faults absences cause = absurd cause
-spare_files (statuses.TooLong (Some f) given most) name bytes said old mid new same read means calm one faults absences cause =
+spare_library (statuses.TooLong None given most) name bytes said old mid new same read means calm one faults absences cause = absurd cause
+spare_library (statuses.TooLong (Some f) given most) name bytes said old mid new same read means calm one faults absences cause =
     (omega (arith, cause.0, one), calm_stop old mid name bytes said f.0 (IsTooLong given most) same read means calm cause.1)
-spare_files statuses.NoMemory name bytes said old mid new same read means calm one faults absences cause = tt
-spare_files statuses.Done name bytes said old mid new same read means calm one faults absences cause = cause
-spare_files statuses.Words name bytes said old mid new same read means calm one faults absences cause = cause
-spare_files statuses.WriteFault name bytes said old mid new same read means calm one faults absences cause = cause
-spare_files (statuses.Scenario fault) name bytes said old mid new same read means calm one faults absences cause = absurd cause
-
--- the rule that no file is empty is broken once all files were read
-pub spare_empty : (name bytes : List ℕ) (said : Said) (read : List (List ℕ)) (f : ℕ) (old mid new : FilesState)
-    → mid.told ≡ old.told → IsRead (old.told name) bytes → meaning bytes ≡ Ok said → lets_die said.deaths ≡ false
-    → new.counts.calls ≡ old.counts.calls + (1 + length said.files) → AreFiles mid.told (names_of said.files) read
-    → first_empty read ≡ Some f → SpareCause name old new (statuses.Scenario (broken 13 f))
-spare_empty name bytes said read f old mid new same is means calm calls all empty =
-    let files : AreFiles old.told (names_of said.files) read = subst (λ (t : List ℕ → Told). AreFiles t (names_of said.files) read) same all in
-    let fault : files_fault read ≡ Some (broken 13 f) = ap (option_map (λ k. broken 13 k)) empty in
-    inr (inr (record { bytes = bytes; read = is; said = said; means = means; holds = (calm, (calls, read, files, fault)) }))
+spare_library statuses.NoMemory name bytes said old mid new same read means calm one faults absences cause = tt
+spare_library statuses.Done name bytes said old mid new same read means calm one faults absences cause = cause
+spare_library statuses.Words name bytes said old mid new same read means calm one faults absences cause = cause
+spare_library statuses.WriteFault name bytes said old mid new same read means calm one faults absences cause = cause
+spare_library (statuses.Scenario fault) name bytes said old mid new same read means calm one faults absences cause =
+    inr (inr (record { bytes = bytes; read = read; said = said; means = means; holds = (calm, HasEmptyFile-of fault said old mid new same one cause) }))
 
 pub none_dies : (deaths : List (Option ℕ)) → list_any (λ death. is_some death) deaths ≡ false → AllByRecursion (λ death. death ≡ None) deaths
 none_dies [] e = tt

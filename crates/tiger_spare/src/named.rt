@@ -8,7 +8,7 @@ ghost use Rattle.tiger_spare.specs.Ends.{IsNamedSpare, SpareCause};
 use crate::reading::read_spare_inputs;
 use node_kit::Gate;
 use outside::Files;
-use spare_ring::{SpareRun, run_spare};
+use spare_ring::{WholeRun, run_spare};
 use std::alloc::Global;
 use std::sync::Wait;
 use std::thread::Threads;
@@ -22,7 +22,7 @@ pub fn named_spare<R: Threads + Wait + Sync, F: Files, G: Gate + Sync>(
     workers: u32,
     files: &mut F,
     gate: &G,
-) -> Result<SpareRun, Status>
+) -> Result<WholeRun, Status>
     requires workers { (1 ≤ workers) × (workers ≤ 64) }
     requires calls { (F.state files.old).counts.calls ≤ most_earlier }
     ensures ran { let old = F.state files.old in

@@ -4,22 +4,17 @@ ghost use Rattle.std.specs.List.{list_any};
 ghost use Rattle.tiger_base.specs.Limits.{most_file};
 ghost use Rattle.outside.specs.Told.{NeverFell};
 ghost use Rattle.scenario_read.specs.Sound.{IsScenario};
-ghost use Rattle.scenario_read.specs.Fault.{broken};
 ghost use Rattle.spare_ring.specs.Runs.{NoCubDies};
 ghost use Rattle.tiger_input.specs.Inputs.{AreInputs, MadeCalls, most_earlier, most_reads};
 ghost use Rattle.tiger_spare.specs.Ends.{SpareCause};
 
 use outside::Files;
-use scenario_read::{ReadStop, Scenario, ScenarioFault, read_scenario};
+use scenario_read::{ReadStop, Scenario, read_scenario};
 use std::alloc::Global;
-use tiger_base::Library;
-use tiger_input::{Inputs, Status, first_empty, read_files, read_one};
+use tiger_input::{Inputs, Status, broken, read_library, read_one};
 
 /// The most bytes of a scenario.
 const MOST_SCENARIO: u64 = 4194304;
-
-/// The rule that no file is empty.
-const EMPTY_FILE: u32 = 13;
 
 /// The rule that no cub dies.
 const CUBS_DIE: u32 = 14;
@@ -55,26 +50,8 @@ pub fn read_spare_inputs<F: Files>(
     if lets_cubs_die(&scenario) {
         return Err(broken(CUBS_DIE, 0));
     }
-    let read = read_files(alloc, files, scenario.files.as_slice())?;
-    if let Some(file) = first_empty(read.as_slice()) {
-        return Err(broken(EMPTY_FILE, file as u32));
-    }
-    Ok(Inputs {
-        scenario,
-        library: Library::new(read),
-    })
-}
-
-/// A broken rule that names no numbers.
-fn broken(rule: u32, item: u32) -> Status
-    ensures { result ≡ Status.Scenario (broken rule item) }
-{
-    Status::Scenario(ScenarioFault {
-        rule,
-        item,
-        left: 0,
-        right: 0,
-    })
+    let library = read_library(alloc, files, &scenario)?;
+    Ok(Inputs { scenario, library })
 }
 
 /// Whether a scenario lets a cub die.

@@ -76,11 +76,11 @@ IfSpare words P = (name : List ℕ) (workers : ℕ) → AsksSpare (texts_of word
 abbrev pub IfNet : Vec (String Global) Global → (List ℕ → Type 0) → Type 0
 IfNet words P = (name : List ℕ) → IsNet (texts_of words.items) name → P name
 
--- if they are `disks NAME IMAGE`, with `--force` behind them or not, this holds of the name, and of whether an image that
+-- if they are `disks NAME IMAGE`, with `--force` behind them or not, this holds of the names, and of whether an image that
 -- exists is written over
-abbrev pub IfDisks : Vec (String Global) Global → (List ℕ → Bool → Type 0) → Type 0
+abbrev pub IfDisks : Vec (String Global) Global → (List ℕ → List ℕ → Bool → Type 0) → Type 0
 IfDisks words P =
-    (name image : List ℕ) (over : Bool) → AsksDisks (texts_of words.items) name image over → P name over
+    (name image : List ℕ) (over : Bool) → AsksDisks (texts_of words.items) name image over → P name image over
 
 -- if they are not so for any names, this holds
 abbrev pub IfNoDisks : Vec (String Global) Global → Type 0 → Type 0

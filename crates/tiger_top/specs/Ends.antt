@@ -53,6 +53,6 @@ pub record IsRunnableNet (file : Told) : Type 0 where
   pub plan : NetSaid
   pub is_sound : net_meaning plan_bytes ≡ Ok plan
 
--- all disks are in the image, each of their parts was read once, and their lines were written
-abbrev pub AreStored : DeviceState → DeviceState → SinkState → SinkState → Disks → Type 0
-AreStored old new out_old out_new disks = AreInImage disks old new × IsWritten out_old out_new (all_lines disks)
+-- all disks are in the image of a name, each of their parts was read once, and their lines were written
+abbrev pub AreStored : List ℕ → DeviceState → DeviceState → SinkState → SinkState → Disks → Type 0
+AreStored image old new out_old out_new disks = AreInImage image disks old new × IsWritten out_old out_new (all_lines disks)

@@ -1,7 +1,7 @@
 //! The command `disks NAME IMAGE`.
 ghost use Rattle.std.specs.Prelude.{◌≡◌, ◌+◌, ◌^◌, ◌≤◌};
 ghost use Rattle.outside.specs.Written.{most_faults};
-ghost use Rattle.file_disk.specs.Devices.{most_counted};
+ghost use Rattle.file_disk.specs.Devices.{OpensOnly, most_counted};
 ghost use Rattle.tiger_input.specs.Inputs.{most_earlier, most_reads};
 ghost use Rattle.tiger_disks.specs.Ends.{OfInputs, InputEnd, DeviceEnd, SinkEnd, IsInputRefusal};
 ghost use Rattle.tiger_top.specs.Statuses.{IfDisksStopped, IsDone, IsTopRefusal, status_of};
@@ -30,12 +30,13 @@ pub(crate) fn write_image<F: Files, K: Sink, V: Device>(
     requires refusals { (V.state dev.old).refusals ≤ most_counted }
     ensures done { let old = V.state dev.old in let out_old = K.state out.old in
         IsDone (status_of result) → OfInputs (F.state files.old) (F.state files.new) name.now
-        (AreStored old (V.state dev.new) out_old (K.state out.new)) }
+        (AreStored image.now old (V.state dev.new) out_old (K.state out.new)) }
     ensures input { let old = F.state files.old in IfDisksStopped
         (InputEnd name.now old (F.state files.new)) (status_of result) }
     ensures device { let old = F.state files.old in let dev_old = V.state dev.old in IfDisksStopped
-        (DeviceEnd name.now old (F.state files.new) over dev_old (V.state dev.new))
+        (DeviceEnd name.now image.now old (F.state files.new) over dev_old (V.state dev.new))
         (status_of result) }
+    ensures names { OpensOnly image.now (V.state dev.old) (V.state dev.new) }
     ensures sink { let old = F.state files.old in let out_old = K.state out.old in IfDisksStopped
         (SinkEnd name.now old (F.state files.new) out_old (K.state out.new))
         (status_of result) }

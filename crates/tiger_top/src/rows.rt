@@ -20,7 +20,7 @@ ghost use Rattle.tiger_input.specs.Samples.{here, makes, runs};
 ghost use Rattle.tiger_input.specs.Words.{texts_of};
 ghost use Rattle.tiger_input.specs.declared.status.Status.TheVariants as statuses;
 ghost use Rattle.tiger_top.specs.declared.status.TopStatus.TheVariants as tops;
-ghost use Rattle.tiger_disks.specs.Samples.{disks_words, one_name};
+ghost use Rattle.tiger_disks.specs.Samples.{disks_words, image_name, one_name};
 ghost use Rattle.tiger_disks.specs.declared.status.DisksStatus.TheVariants as ends;
 ghost use Rattle.tiger_top.specs.Commands.{AreTigers, IsNoTopCommand, IfTigers, IfJournal, IfSpare, IfNet, IfDisks, IfNoDisks, IfCheck, IfAudit};
 ghost use Rattle.tiger_top.specs.Ends.{IsRunnableNet, NetCause, NetWrote};
@@ -76,14 +76,15 @@ pub fn calls()
     ensures spare_name { (words : Vec (String Global) Global) →
         texts_of words.items ≡ spare_words here 1 → IfSpare words (λ name. name ≡ []) → ⊥ }
     ensures disks { (words : Vec (String Global) Global) → texts_of words.items ≡ disks_words [] →
-        IfDisks words (λ name over. (name ≡ one_name) × (over ≡ false)) }
+        IfDisks words (λ name image over.
+        (name ≡ one_name) × (image ≡ image_name) × (over ≡ false)) }
     ensures forced { (words : Vec (String Global) Global) →
         texts_of words.items ≡ disks_words (codes "--force" ∷ []) →
-        IfDisks words (λ _ over. over ≡ true) }
+        IfDisks words (λ _ _ over. over ≡ true) }
     ensures no_disks { (words : Vec (String Global) Global) → texts_of words.items ≡ nets here →
-        IfDisks words (λ _ _. ⊥) }
+        IfDisks words (λ _ _ _. ⊥) }
     ensures disks_name { (words : Vec (String Global) Global) → texts_of words.items ≡ disks_words [] →
-        IfDisks words (λ name _. name ≡ []) → ⊥ }
+        IfDisks words (λ name _ _. name ≡ []) → ⊥ }
     ensures image { (words : Vec (String Global) Global) → texts_of words.items ≡ disks_words [] →
         IfNoDisks words ⊥ }
     ensures no_image { (words : Vec (String Global) Global) → texts_of words.items ≡ nets here →

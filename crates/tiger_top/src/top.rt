@@ -1,7 +1,7 @@
 //! The program as a function of its words, its files and its output.
 ghost use Rattle.std.specs.Prelude.{◌≡◌, ◌+◌, ◌^◌, ◌≤◌, ◌↔◌, ℕ, None, IsSomeAnd, IfSome};
 ghost use Rattle.outside.specs.Written.{most_faults};
-ghost use Rattle.file_disk.specs.Devices.{most_counted};
+ghost use Rattle.file_disk.specs.Devices.{OpensOnly, most_counted};
 ghost use Rattle.tiger_audit.specs.Ends.{AuditCause, AuditSink, OfYesRun, IsJudged, IsSoundText, IsToldText};
 ghost use Rattle.tiger_check.specs.Ends.{CheckSink};
 ghost use Rattle.tiger_check.specs.Statuses.{as_run, NamesConditions};
@@ -228,34 +228,36 @@ pub fn tiger_top<R: Threads + Wait + Sync, F: Files, K: Sink, V: Device, G: Gate
 
     // ---- Of `disks NAME IMAGE`, with `--force` behind it or not.
 
-    // All was done: the scenario was read, and then each of its files; all of its disks are in the
-    // image, each part was read once and is as it was stored, and the lines of the disks were
-    // written.
+    // All was done: the scenario was read, and then each of its files; the image of the name was
+    // opened, and no other one; all disks of the scenario are in it, each part was read once and is
+    // as it was stored, and the lines of the disks were written.
     ensures disks_done { let old = V.state dev.old in let out_old = K.state out.old in
-        IfDisks words.now (λ name _. IsDone result.status →
+        IfDisks words.now (λ name image _. IsDone result.status →
         OfInputs (F.state files.old) (F.state files.new) name
-        (AreStored old (V.state dev.new) out_old (K.state out.new))) }
+        (AreStored image old (V.state dev.new) out_old (K.state out.new))) }
 
     // Why an input was refused: it is the first, in the order of work, that is not as it should
     // be, or the disks have too many parts.
-    ensures disks_input { let old = F.state files.old in IfDisks words.now (λ name _.
+    ensures disks_input { let old = F.state files.old in IfDisks words.now (λ name _ _.
         IfDisksStopped (InputEnd name old (F.state files.new)) result.status) }
 
     // A device ends the command for its cause alone: one of its calls failed, which it counts; the
     // image exists and was not to be written over, which it counts too; or what it gave of a part
     // is other than what was stored there, and it does not tell its bytes.
     ensures disks_device { let old = F.state files.old in let dev_old = V.state dev.old in
-        IfDisks words.now (λ name over. IfDisksStopped
-        (DeviceEnd name old (F.state files.new) over dev_old (V.state dev.new)) result.status) }
+        let new = F.state files.new in IfDisks words.now (λ name image over. IfDisksStopped
+        (DeviceEnd name image old new over dev_old (V.state dev.new)) result.status) }
 
     // What was written with each status. No run of the ring is kept.
     ensures disks_sink { let old = F.state files.old in let out_old = K.state out.old in
-        IfDisks words.now (λ name _. IfDisksStopped
+        IfDisks words.now (λ name _ _. IfDisksStopped
         (SinkEnd name old (F.state files.new) out_old (K.state out.new)) result.status) }
-    ensures disks_kept { IfDisks words.now (λ _ _. result.kept ≡ None) }
+    ensures disks_kept { IfDisks words.now (λ _ _ _. result.kept ≡ None) }
 
-    // No image is opened before the inputs are good.
-    ensures disks_untouched { IfDisks words.now (λ _ _. IfDisksStopped (λ end.
+    // No image is opened but that of the name, and none before the inputs are good.
+    ensures disks_names { IfDisks words.now (λ _ image _.
+        OpensOnly image (V.state dev.old) (V.state dev.new)) }
+    ensures disks_untouched { IfDisks words.now (λ _ _ _. IfDisksStopped (λ end.
         IsInputRefusal end → V.state dev.new ≡ V.state dev.old) result.status) }
 
     // ---- Of `check NAME`.

@@ -1,18 +1,25 @@
-use Rattle.std.proofs.Common.{refl, ◌∙◌}
+use Rattle.std.proofs.Common.{◌≡◌, ◌∙◌, refl}
+use Rattle.std.proofs.lemmas.Result.{IfOk-weaker}
+use Rattle.ring_nodes.specs.AllNodes.{image_at, images_of}
+use Rattle.ring_nodes.proofs.Numbered.{length-numbered}
+use Rattle.spare_ring.specs.Runs.{spare_ring_of}
+use Rattle.spare_ring.proofs.Runs.{spare_run}
 use Rattle.spare_ring.proofs.run.run_spare.Goals as goal
 
-pub returns-clause-ran : goal.returns-clause-ran
-returns-clause-ran g c = record {
-  course = refl;
-  calm = c.requires.calm;
-  catalogue = c.in_ok-catalogue.ensures;
-  orders = c.in_ok-orders.ensures.orders;
-  steps = rw (← c.as_slice.ensures) c.in_ok-journals.ensures.steps;
-  carried = c.in_ok-journals.ensures.carried;
-  paced = c.in_ok-journals.ensures.paced;
-  timed = c.in_ok-journals.ensures.timed;
-  digests = c.new.ensures ∙ c.in_ok-digests.ensures ∙ rw (c.as_slice-4.ensures.value, c.in_ok-outcomes.ensures, c.as_slice-2.ensures, c.as_slice-3.ensures) refl;
-}
+pub make_spare_nodes-requires-clause-images : goal.make_spare_nodes-requires-clause-images
+make_spare_nodes-requires-clause-images g c =
+    let p = c.args.scenario.course.plan.params in
+    let library = c.args.library.now in
+    let images : c.as_slice-2.result.now ≡ images_of p c.in_ok-catalogue.catalogue library = c.as_slice-2.ensures.value ∙ c.in_ok-images.ensures in
+    rw images (length-numbered (image_at p c.in_ok-catalogue.catalogue library) _)
 
-pub returns-clause-told : goal.returns-clause-told
-returns-clause-told g c = rw (c.in_ok-outcomes.ensures, c.as_slice-2.ensures, c.as_slice-3.ensures) refl
+pub returns-clause-ran : goal.returns-clause-ran
+returns-clause-ran g c =
+    let s = c.args.scenario in
+    let library = c.args.library.now in
+    let catalogue = c.in_ok-catalogue.catalogue in
+    let images : c.as_slice-2.result.now ≡ images_of s.course.plan.params catalogue library = c.as_slice-2.ensures.value ∙ c.in_ok-images.ensures in
+    let opened : c.in_ok-nodes.nodes.items ≡ spare_ring_of _ s.course catalogue library c.in_ok-orders.orders =
+    c.in_ok-nodes.ensures.nodes ∙ rw (images, c.in_ok-given.ensures, c.as_slice.ensures) refl in
+    let ran = rw (opened, c.in_ok-orders.ensures.orders) at c.run_nodes.ensures.ran in
+    IfOk-weaker c.run_nodes.result _ _ (λ run kept. spare_run g.row.G.Denot s library catalogue run.kept c.requires.calm c.in_ok-catalogue.ensures kept) ran

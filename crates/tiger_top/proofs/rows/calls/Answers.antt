@@ -14,6 +14,9 @@ first_letter words = get_or (get_or words 0 []) 0 0
 abbrev second : List (List ℕ) → List ℕ
 second words = get_or words 1 []
 
+abbrev third : List (List ℕ) → List ℕ
+third words = get_or words 2 []
+
 pub returns-clause-net : goal.returns-clause-net
 returns-clause-net c words is name net = ap second (sym net ∙ is)
 
@@ -62,7 +65,7 @@ returns-clause-tigers_texts c words is h =
     omega (arith, e)
 
 pub returns-clause-disks : goal.returns-clause-disks
-returns-clause-disks c words is name image false plain = (ap second (sym plain ∙ is), refl)
+returns-clause-disks c words is name image false plain = (ap second (sym plain ∙ is), ap third (sym plain ∙ is), refl)
 returns-clause-disks c words is name image true forced = let e = ap count (sym is ∙ forced) in absurd (omega (arith, e))
 
 pub returns-clause-forced : goal.returns-clause-forced

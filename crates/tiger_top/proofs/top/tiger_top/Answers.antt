@@ -10,6 +10,9 @@ use Rattle.tiger_top.proofs.top.tiger_top.Goals as goal
 abbrev second : List (List ℕ) → List ℕ
 second words = get_or words 1 []
 
+abbrev third : List (List ℕ) → List ℕ
+third words = get_or words 2 []
+
 pub returns-in-Tiger-clause-one_answer : goal.returns-in-Tiger-clause-one_answer
 returns-in-Tiger-clause-one_answer g c = λ tigers all. rw c.by_tiger.ensures (c.tiger.ensures.one_answer all)
 
@@ -86,4 +89,11 @@ pub returns-in-Disks-clause-disks_done : goal.returns-in-Disks-clause-disks_done
 returns-in-Disks-clause-disks_done g c = λ name image over asked done.
     let disks : AsksDisks (texts_of c.args.words.now.items) c.in-Disks.name.now c.in-Disks.image.now c.in-Disks.over = rw c.as_slice.ensures.value at c.in-Disks.ensures in
     let same : c.in-Disks.name.now ≡ name = ap second (sym disks ∙ asked) in
-    rw (← same) (c.write_image.ensures.done (rw c.without_ring-in-Disks.ensures at done))
+    let image_is : c.in-Disks.image.now ≡ image = ap third (sym disks ∙ asked) in
+    rw (← same, ← image_is) (c.write_image.ensures.done (rw c.without_ring-in-Disks.ensures at done))
+
+pub returns-in-Disks-clause-disks_names : goal.returns-in-Disks-clause-disks_names
+returns-in-Disks-clause-disks_names g c = λ name image over asked.
+    let disks : AsksDisks (texts_of c.args.words.now.items) c.in-Disks.name.now c.in-Disks.image.now c.in-Disks.over = rw c.as_slice.ensures.value at c.in-Disks.ensures in
+    let image_is : c.in-Disks.image.now ≡ image = ap third (sym disks ∙ asked) in
+    rw (← image_is) c.write_image.ensures.names
