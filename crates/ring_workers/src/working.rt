@@ -4,11 +4,19 @@ use crate::making::Locks;
 use node_kit::Node;
 use ring_cells::{Moved, Named};
 use std::sync::Wait;
+use std::thread::Parker;
+use std::time::Duration;
 use std::{hint, thread};
 use tiger_base::{Message, NoMemory};
 
 /// After this many rounds in which nothing moved, a worker yields its processor instead of spinning.
 const MOST_SPINS: u32 = 20;
+
+/// After this many, it sleeps for a while behind each.
+const MOST_AWAKE: u32 = 1000;
+
+/// For how long a worker sleeps, in microseconds.
+const NAP: u64 = 50;
 
 /// The place of the share at which a worker begins its rounds, if there are so many of both.
 pub(crate) fn first_of(worker: usize, workers: usize, shares: usize) -> usize {
@@ -24,13 +32,14 @@ pub(crate) fn work<M: Message, T: Node<M>, W: Named<T>, R: Wait>(
     shares: &Locks<M, T, W>,
     first: usize,
 ) {
+    let bed = Parker::new();
     let mut done = 0;
     let mut idle = 0u32;
     for _ in rt.forever() {
         match round(rt, shares, first, &mut done) {
             Ok(true) => idle = 0,
             Ok(false) if done >= shares.len() => return,
-            Ok(false) => idle = pause(idle),
+            Ok(false) => idle = pause(rt, &bed, idle),
             Err(NoMemory) => return,
         }
     }
@@ -73,13 +82,16 @@ fn visit<M: Message, T: Node<M>, W: Named<T>, R: Wait>(
 }
 
 // Lets some time pass, more with each round in which nothing moved. The answer is the number of such rounds.
-fn pause(idle: u32) -> u32 {
-    if idle >= MOST_SPINS {
+fn pause<R: Wait>(rt: &R, bed: &Parker, idle: u32) -> u32 {
+    if idle >= MOST_AWAKE {
+        // Nobody wakes it: no wake-up can be lost.
+        bed.park_timeout(rt, Duration::from_micros(NAP));
+    } else if idle >= MOST_SPINS {
         thread::yield_now();
-        return idle;
-    }
-    for _ in 0..idle {
-        hint::spin_loop();
+    } else {
+        for _ in 0..idle {
+            hint::spin_loop();
+        }
     }
     idle.saturating_add(1)
 }

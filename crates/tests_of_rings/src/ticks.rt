@@ -210,17 +210,17 @@ fn the_ring_goes_on_around_a_held_disk(rt: HostRuntime) -> Result<(), Fail> {
     assert_two_meet(&rt, rt.alloc(), &comings)
 }
 
-/// Disk 0 is held in beat 5 until cub 1 has come to beat 6, and in beat 6 until cub 0 has. Once cub
-/// 1 is in beat 6, cub 0 has ended beat 5, so that disk 0 does both beats in one call. So cub 0
-/// comes to beat 6 only if a beat is closed when it is done, and not only when the call that does
-/// it ends.
+/// Disk 0 is held in beat 5 until cub 1, which is in the other share, has come to beat 6, and in
+/// beat 6 until cub 1 has come to beat 7. Once cub 1 is in beat 6, its share has closed beat 5, so
+/// that the share of disk 0 does both beats in one call. So cub 1 comes to beat 7 only if each beat
+/// of a call is closed while it is done, and not only the first one, or all when the call ends.
 #[test]
 fn a_beat_is_closed_during_a_call(rt: HostRuntime) -> Result<(), Fail> {
     let comings = [
         comes(8, 5, Some(2)),
         comes(8, 6, Some(3)),
         comes(1, 6, None),
-        comes(0, 6, None),
+        comes(1, 7, None),
     ];
     assert_two_meet(&rt, rt.alloc(), &comings)
 }

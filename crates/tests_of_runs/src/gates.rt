@@ -184,11 +184,11 @@ impl Gate for Assembly {
     }
 }
 
-/// The files of a call: a scenario of the small plan, and the long file.
-fn files_of(alloc: Global, rest: &str) -> Result<MemFiles, Fail>
+/// The files of a call: a scenario of a plan, and the long file.
+fn files_of(alloc: Global, plan: &str, rest: &str) -> Result<MemFiles, Fail>
     ensures { IfOk result (λ m. m.counts.calls ≡ 0) }
 {
-    let text = format!(in alloc; "{SMALL}{ONE}{rest}}}")?;
+    let text = format!(in alloc; "{plan}{ONE}{rest}}}")?;
     let mut files = MemFiles::new(alloc);
     files.put("one.json", text.into_bytes())?;
     files.put("one", LONG.to_vec(alloc)?)?;
@@ -199,11 +199,12 @@ fn files_of(alloc: Global, rest: &str) -> Result<MemFiles, Fail>
 fn call<R: Threads + Wait + Sync, G: Gate + Sync>(
     rt: &R,
     alloc: Global,
+    plan: &str,
     rest: &str,
     workers: &str,
     gate: &G,
 ) -> Result<(), Fail> {
-    let mut files = files_of(alloc, rest)?;
+    let mut files = files_of(alloc, plan, rest)?;
     let mut out = MemSink::new(alloc);
     let mut words = Vec::new(alloc);
     for word in ["run", "one.json", workers] {
@@ -218,7 +219,7 @@ fn call<R: Threads + Wait + Sync, G: Gate + Sync>(
 /// Whether two reads that wait for each other met in such a call.
 fn two_meet<R: Threads + Wait + Sync>(rt: &R, alloc: Global, workers: &str) -> Result<bool, Fail> {
     let gate = Crossing::new(2, true);
-    call(rt, alloc, THREE, workers, &gate)?;
+    call(rt, alloc, SMALL, THREE, workers, &gate)?;
     Ok(gate.has_met())
 }
 
@@ -227,6 +228,104 @@ fn two_meet<R: Threads + Wait + Sync>(rt: &R, alloc: Global, workers: &str) -> R
 fn a_call_has_as_many_workers_as_its_words_name(rt: HostRuntime) -> Result<(), Fail> {
     assert!(rt; two_meet(&rt, rt.alloc(), "2")?);
     assert!(rt; !two_meet(&rt, rt.alloc(), "1")?);
+    Ok(())
+}
+
+/// Whether the read of disk 0 that is held in such a call met the next beat's read of disk 1.
+fn goes_on<R: Threads + Wait + Sync>(rt: &R, alloc: Global, workers: &str) -> Result<bool, Fail> {
+    let gate = Crossing::new(1, false);
+    call(rt, alloc, FINE, TWO, workers, &gate)?;
+    Ok(gate.has_met())
+}
+
+/// While disk 0 is held in a beat of a call, disk 1 comes to its read of the next one.
+#[test]
+fn a_call_goes_on_around_a_held_read(rt: HostRuntime) -> Result<(), Fail> {
+    assert!(rt; goes_on(&rt, rt.alloc(), "2")?);
+    assert!(rt; !goes_on(&rt, rt.alloc(), "1")?);
+    Ok(())
+}
+
+/// Holds two reads of disk 0, one after the other, each until disk 1 is read once more.
+#[derive(Drop)]
+struct Chase {
+    reads_of_0: AtomicU64,
+    reads_of_1: AtomicU64,
+    held: [Party; 2],
+    awaited: [Party; 2],
+}
+
+/// How many reads of disk 0 come before the first one that a chase holds.
+const BEFORE: u64 = 2;
+
+impl Chase {
+    fn new() -> Chase {
+        Chase {
+            reads_of_0: AtomicU64::new(0),
+            reads_of_1: AtomicU64::new(0),
+            held: [Party::new(), Party::new()],
+            awaited: [Party::new(), Party::new()],
+        }
+    }
+
+    /// Disk 1 comes to a read, after so many earlier ones.
+    fn come(&self, earlier: u64) {
+        if let Some(party) = self.awaited.get(earlier as usize) {
+            party.come();
+        }
+    }
+
+    /// Holds a read of disk 0 that comes after so many earlier ones, if it is one of the two.
+    fn hold(&self, earlier: u64) {
+        let Some(place) = earlier.checked_sub(BEFORE) else {
+            return;
+        };
+        if let Some(party) = self.held.get(place as usize)
+            && let Some(other) = self.awaited.get(place as usize)
+        {
+            party.wait_for(other, LOOKS);
+        }
+    }
+
+    /// Whether each read that was held ended because the other disk was read.
+    fn has_met(&self) -> bool {
+        for party in self.held.iter() {
+            if !party.has_met() {
+                return false;
+            }
+        }
+        true
+    }
+}
+
+impl Gate for Chase {
+    fn before_read(&self, disk: DiskNo) {
+        match disk.0 {
+            0 => self.hold(self.reads_of_0.fetch_add(1, Ordering::SeqCst)),
+            1 => self.come(self.reads_of_1.fetch_add(1, Ordering::SeqCst)),
+            _ => {}
+        }
+    }
+}
+
+/// Four viewers in slots 22, 23, 121 and 122: in beats 112 and 113 disk 0 is read for the third and the fourth time, and
+/// in beats 113 and 114 disk 1 for the first and the second.
+const FOUR: &str =
+    r#""links":{"fixed":1},"beats":200,"events":[{"beat":0,"start":0},{"beat":1,"start":0},{"beat":99,"start":0},{"beat":100,"start":0}]"#;
+
+/// Whether each read of disk 0 that is held in a call met the next beat's read of disk 1.
+fn all_meet<R: Threads + Wait + Sync>(rt: &R, alloc: Global, workers: &str) -> Result<bool, Fail> {
+    let gate = Chase::new();
+    call(rt, alloc, FINE, FOUR, workers, &gate)?;
+    Ok(gate.has_met())
+}
+
+/// Disk 0 is held in two beats, of which its worker does the second one as soon as the first is over, since the other
+/// worker has done as many by then. So disk 1 comes to its second read only if each beat is closed while it is done.
+#[test]
+fn each_beat_of_a_call_is_closed_while_it_is_done(rt: HostRuntime) -> Result<(), Fail> {
+    assert!(rt; all_meet(&rt, rt.alloc(), "2")?);
+    assert!(rt; !all_meet(&rt, rt.alloc(), "1")?);
     Ok(())
 }
 
@@ -242,7 +341,7 @@ fn eight_meet<R: Threads + Wait + Sync>(
     workers: &str,
 ) -> Result<bool, Fail> {
     let gate = Assembly::new();
-    call(rt, alloc, FIFTEEN, workers, &gate)?;
+    call(rt, alloc, SMALL, FIFTEEN, workers, &gate)?;
     Ok(gate.has_met())
 }
 
