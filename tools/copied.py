@@ -93,6 +93,22 @@ class Copy:
         return ran.status == 0, ran.out.decode("utf-8", "replace")
 
 
+def read_edits(path):
+    """What an edit's file says under each of its own words, in order, and the texts that it changes: of each the file below
+    crates/, what stands there once, and what is put in its place."""
+    said, edits = {}, []
+    with open(path, encoding="utf-8") as file:
+        for line in file:
+            key, text = line.rstrip("\n").split(": ", 1)
+            if key == "file":
+                edits.append((text, [], []))
+            elif key in ("old", "new"):
+                edits[-1][1 if key == "old" else 2].append(text)
+            else:
+                said.setdefault(key, []).append(text)
+    return said, [(file, "\n".join(old), "\n".join(new)) for file, old, new in edits]
+
+
 def read_crates():
     """Of each crate of the repository the names that it stands on."""
     with open(os.path.join(program.TOP, "crates.txt"), encoding="utf-8") as file:
@@ -107,6 +123,11 @@ def failed_lemmas(crate, said):
         name = crate if folder == "." else os.path.basename(folder)
         found.append(f"{name}: {lemma or 'no lemma'}")
     return list(dict.fromkeys(found))
+
+
+def first_of(text):
+    """The first line of a text."""
+    return text.split("\n", 1)[0]
 
 
 def last_line(said):
