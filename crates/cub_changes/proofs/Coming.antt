@@ -27,7 +27,7 @@ use Rattle.cub_changes.proofs.Closed.{IsClosed, OfEach}
 use Rattle.cub_changes.proofs.Messages.{taking_by}
 use Rattle.cub_changes.proofs.Outputs.{tells_of}
 use Rattle.cub_changes.proofs.Puts.{inserting_by}
-use Rattle.cub_changes.proofs.Ticks.{releasing_by, believing_by, splitting_by, forwarding_by, reading_by, serving_by, ticking_since, IsOfTick, before_inserting, before_splitting, before_forwarding, ticking_by}
+use Rattle.cub_changes.proofs.Ticks.{releasing_by, believing_by, splitting_by, forwarding_by, reading_by, ticking_since, IsOfTick, before_inserting, before_splitting, before_forwarding, ticking_by}
 use Rattle.std.specs.Prelude.{◌⊎◌}
 use Rattle.tiger_base.specs.declared.number.LinkNo.{LinkNo}
 use Rattle.cub_rules.specs.Messages.{taking}
@@ -86,9 +86,6 @@ module _ (p : Params) (c : ℕ) (stamp : Stamp) (h : Store) where
 
   pub reading_same : (reading p stamp h).state.comeback ≡ h.comeback
   reading_same = reading_by IsSame same_closed p c stamp h (same_in OnService)
-
-  pub serving_same : (serving p c stamp h).state.comeback ≡ h.comeback
-  serving_same = serving_by IsSame same_closed p c stamp h (same_in OnService)
 
   -- so one that did not come back puts out a heartbeat in each beat of the number
   pub beat_out : h.comeback ≡ None → (stamp.beat % p.heart == 0) ≡ true

@@ -90,6 +90,14 @@ none_of v xs e = by_line (find (is_of v) xs) refl e
     by_line None f e = none_in v xs f
     by_line (Some x) f e = absurd (cc)
 
+-- so there is no first one
+pub none_left : (v : Instance) (xs : List Line) → None ≡ option_map (λ x. x.rec) (first_of v xs) → first_of v xs ≡ None
+none_left v xs e = by_line (first_of v xs) e
+  where
+    by_line : (o : Option Line) → None ≡ option_map (λ x. x.rec) o → o ≡ None
+    by_line None e = refl
+    by_line (Some x) e = absurd (cc)
+
 -- nothing is taken out yet
 pub dropping : (v : Instance) (s : Seen) (outs : List (Out Msg)) → Dropping v s outs s outs
 dropping v s outs = record { params = refl; outs = refl; left = refl }

@@ -43,7 +43,7 @@ pub(crate) fn drop_lines<'a>(
 }
 
 /// Takes the records of an instance out of a view, and writes each down. A deschedule comes on
-/// several ways, so mostly there are none, and then the lines are only looked through once.
+/// several ways, so mostly there are none; the view keeps that in mind, and then no line is looked at.
 fn drop_each<'a>(
     instance: Instance,
     view: &mut CubView,
@@ -60,6 +60,7 @@ fn drop_each<'a>(
         out.push(Out::Act(What::Dropped(rec)))?;
         view.remove(rec.tenancy.slot, rec.visit);
     }
+    view.note_none(instance);
     Ok(())
 }
 

@@ -27,12 +27,6 @@ all_stay time reading (x ∷ xs) h early =
     rw kept (ap (λ ys. x ∷ ys) (all_stay time reading xs h.1 early))
 
 module _ (time : ℕ) (held_marks unpassed_marks : List Bool) (holds : List Holding) (h : AreHeld time held_marks unpassed_marks holds) where
-  -- the marks tell the same with places for more
-  pub held_places : (held_now unpassed_now : List Bool) → ((n : ℕ) → get_or held_now n false ≡ get_or held_marks n false) → ((n : ℕ) → get_or unpassed_now n false ≡ get_or unpassed_marks n false)
-      → AreHeld time held_now unpassed_now holds
-  held_places held_now unpassed_now held_same unpassed_same =
-      record { once = h.once; from = h.from; held = λ v small. held_same v.0 ∙ h.held v small; unpassed = λ v small. unpassed_same v.0 ∙ h.unpassed v small }
-
   -- with a further one, under a time that it does not end before
   pub held_more : (least : ℕ) (held_grown unpassed_grown held_now unpassed_now : List Bool) (now : List Holding) (v : Instance) (until : ℕ) → is_held holds v ≡ false
       → ((n : ℕ) → get_or held_grown n false ≡ get_or held_marks n false) → (v.0 < most_marked → v.0 < length held_grown) → held_now ≡ slice_set held_grown v.0 true

@@ -2,7 +2,7 @@
 use Rattle.std.proofs.Common.{◌≡◌, ◌∙◌, ℕ, ◌<◌, suc, zero, List, [], ◌∷◌, Bool, true, false, not, ◌||◌, ◌&&◌, ◌==◌, length, get_or, refl, sym, ap, subst, arith}
 use Rattle.std.specs.Prelude.{slice_set}
 use Rattle.std.proofs.Math.Bool.{or-false, and-true}
-use Rattle.std.proofs.lemmas.Bool.{both_ways, eqb-true, eqb-false, false_from_ne_true}
+use Rattle.std.proofs.lemmas.Bool.{eqb-true, eqb-false}
 use Rattle.tiger_base.specs.declared.number.Instance.{Instance}
 use Rattle.instance_marks.specs.Marks.{AreMarked, IsNoted, most_marked}
 
@@ -62,13 +62,6 @@ pub marked_less : (old after : List Bool) (test now : Instance → Bool) (v : In
     → ((w : Instance) → now w ≡ (test w && not (v.0 == w.0))) → AreMarked after now
 marked_less old after test now v h is less w small =
     ap (λ (marks : List Bool). get_or marks w.0 false) is ∙ dropped-mark old v.0 w.0 ∙ ap (λ b. b && not (v.0 == w.0)) (h w small) ∙ sym (less w)
-
--- an instance whose mark is not set is no other one that is noted
-pub not_noted : (marks : List Bool) (v w : Instance) → v.0 < most_marked → get_or marks v.0 false ≡ false → IsNoted marks w → (w.0 == v.0) ≡ false
-not_noted marks v w small none noted =
-    false_from_ne_true (w.0 == v.0) (λ e.
-    let same : w.0 ≡ v.0 = eqb-true w.0 v.0 e in
-    both_ways (get_or marks v.0 false) none (subst (λ (n : ℕ). get_or marks n false ≡ true) same (noted (omega (arith, same, small)))))
 
 -- what is noted once one more is
 pub noted_one : (grown after : List Bool) (v : Instance) → (v.0 < most_marked → v.0 < length grown) → after ≡ slice_set grown v.0 true → IsNoted after v

@@ -7,6 +7,7 @@ use Rattle.std.specs.List.{AllByRecursion}
 use Rattle.std.specs.BTreeSet.{insert_key}
 use Rattle.std.specs.Ordering.{match_ordering, nat_cmp, ordering_then}
 use Rattle.std.proofs.lemmas.Bool.{eqb-true, le-ltb, lt-ltb, ltb-false, eqb-false}
+use Rattle.tiger_base.specs.declared.tenancy.PieceState.{PieceState}
 use Rattle.mirror_schedule.specs.Agendas.{front_of, rank_cmp, timed_of}
 use Rattle.mirror_schedule.specs.Sorted.{but_first_if, first_if, is_less, with_one}
 use Rattle.mirror_schedule.specs.TimedPieces.{timed_before}
@@ -81,33 +82,22 @@ others_mapped (Some k) ks ls e f there = sym (ap (λ (rs : List Rank). drop 1 (m
 others_mapped None [] ls e f there = ap (λ (rs : List Rank). map timed_of rs) f
 others_mapped None (x ∷ xs) ls e f there = absurd (cc (there.1 (omega arith)))
 
--- the first of some things is taken if it passes a test
+-- the first of some things stays if it does not pass a test
 module _ {X : Type 0} (test : X → Bool) where
-  pub record IsTaken (x : X) (xs : List X) : Type 0 where
-    pub first : Some x ≡ first_if test xs
-    pub left : drop 1 xs ≡ but_first_if test xs
-
-  pub taken_first : (x : X) (xs : List X) → Some x ≡ first_if (λ y. true) xs → test x ≡ true → IsTaken x xs
-  taken_first x [] e t = absurd (cc)
-  taken_first x (y ∷ ys) e t =
-      let same : x ≡ y = cc in
-      let own : test y ≡ true = ap test (sym same) ∙ t in
-      record { first = rw own e; left = rw own refl }
-
   pub record IsLeft (xs : List X) : Type 0 where
     pub first : None ≡ first_if test xs
     pub left : xs ≡ but_first_if test xs
 
-  pub left_first : (x : X) (xs : List X) → Some x ≡ first_if (λ y. true) xs → test x ≡ false → IsLeft xs
-  left_first x [] e t = absurd (cc)
-  left_first x (y ∷ ys) e t =
-      let same : x ≡ y = cc in
-      let own : test y ≡ false = ap test (sym same) ∙ t in
-      record { first = rw own refl; left = rw own refl }
-
-  pub left_none : (xs : List X) → None ≡ first_if (λ y. true) xs → IsLeft xs
-  left_none [] e = record { first = refl; left = refl }
-  left_none (y ∷ ys) e = absurd (cc)
+  pub left_undue : (xs : List X) → is_some (first_if test xs) ≡ false → IsLeft xs
+  left_undue [] e = record { first = refl; left = refl }
+  left_undue (x ∷ xs) e = at (test x) refl e
+    where
+      at : (t : Bool) → test x ≡ t → is_some (cond t (Some x) None) ≡ false → IsLeft (x ∷ xs)
+      at true is e = absurd (cc)
+      at false is e = record {
+        first = sym (ap (λ t. cond t (Some x) None) is);
+        left = sym (ap (λ t. cond t xs (x ∷ xs)) is);
+      }
 
   pub left_all : (xs : List X) → AllByRecursion (λ x. test x ≡ false) xs → IsLeft xs
   left_all [] h = record { first = refl; left = refl }
@@ -115,6 +105,28 @@ module _ {X : Type 0} (test : X → Bool) where
     first = sym (ap (λ t. cond t (Some x) None) h.0);
     left = sym (ap (λ t. cond t xs (x ∷ xs)) h.0);
   }
+
+-- the first of some numbers is taken out, if its piece passes a test or there is none
+module _ (test : PieceState × ℕ → Bool) where
+  pub record IsTakenOut (o : Option (PieceState × ℕ)) (ks ls : List Rank) : Type 0 where
+    pub first : o ≡ first_if test (map timed_of ks)
+    pub left : map timed_of ls ≡ but_first_if test (map timed_of ks)
+
+  pub taken_out : (k : Rank) (ks ls : List Rank) → ks ≡ k ∷ ls → is_some (first_if test (map timed_of ks)) ≡ true → IsTakenOut (Some (timed_of k)) ks ls
+  taken_out k ks ls e due =
+      subst (λ (rs : List Rank). IsTakenOut (Some (timed_of k)) rs ls) (sym e)
+      (at (test (timed_of k)) refl (subst (λ (rs : List Rank). is_some (first_if test (map timed_of rs)) ≡ true) e due))
+    where
+      at : (t : Bool) → test (timed_of k) ≡ t → is_some (cond t (Some (timed_of k)) None) ≡ true → IsTakenOut (Some (timed_of k)) (k ∷ ls) ls
+      at true is f = record {
+        first = sym (ap (λ t. cond t (Some (timed_of k)) None) is);
+        left = sym (ap (λ t. cond t (map timed_of ls) (timed_of k ∷ map timed_of ls)) is);
+      }
+      at false is f = absurd (cc)
+
+  pub none_out : (ks ls : List Rank) → ls ≡ ks → (0 < length ks → ⊥) → IsTakenOut None ks ls
+  none_out [] ls e none = record { first = refl; left = ap (λ (rs : List Rank). map timed_of rs) e }
+  none_out (k ∷ ks) ls e none = absurd (none (omega arith))
 
 -- the time of the first tells whether it leaves by another
 pub front_due : (time : ℕ) (ks : List Rank) (front : ℕ) → Some front ≡ front_of ks → nat_le front time ≡ is_some (first_if (λ x. nat_le x.1 time) (map timed_of ks))

@@ -8,6 +8,7 @@ pub mod Listings
 pub mod Members
 pub mod NotedSplits
 pub mod Numbers
+pub mod Onlys
 pub mod Orders
 pub mod PieceLists
 pub mod Places

@@ -2,7 +2,7 @@
 use Rattle.std.proofs.Common.{◌≡◌, ◌∙◌, ℕ, ◌<◌, ◌≤◌, ◌||◌, ◌&&◌, ◌==◌, nat_le, nat_lt, Bool, true, false, cond, not, List, [], ◌∷◌, length, get_or, drop, count_by, Some, None, is_some, refl, ap, sym, subst, eq-eqb, arith, ⊎_elim}
 use Rattle.std.specs.Prelude.{slice_set}
 use Rattle.std.specs.List.{filter, insert, list_any}
-use Rattle.std.proofs.lemmas.Bool.{and_parts, cases_eq, eqb-true, false_from_ne_true, not-false, not_from_false}
+use Rattle.std.proofs.lemmas.Bool.{and_parts, cases_eq, eqb-true, false_from_ne_true, not_from_false}
 use Rattle.std.proofs.lemmas.Bool.Decides.{nat_tests}
 use Rattle.std.proofs.lemmas.List.{get_or_default, get_or_past}
 use Rattle.tiger_base.specs.Records.{same_want, want_of_piece}
@@ -117,45 +117,46 @@ none_due time rows agenda h none =
     left_all (λ x. nat_le x.1 time) (pieces_standing rows agenda)
     (all_filter (λ x. nat_le x.1 time ≡ false) (piece_stands rows) agenda (none_pass timed_before (λ x. nat_le x.1 time) (later time) agenda h.order none))
 
--- the first one leaves, or stays: the front of all that came stands
+-- what is left of all that came, if the first one does not leave
+pub none_taken : (test : Pair → Bool) (agenda now : List Pair) → None ≡ first_if test agenda → now ≡ but_first_if test agenda → now ≡ agenda
+none_taken test [] now e f = f
+none_taken test (x ∷ xs) now e f = at (test x) e f
+  where
+    at : (t : Bool) → None ≡ cond t (Some x) None → now ≡ cond t xs (x ∷ xs) → now ≡ x ∷ xs
+    at true e f = absurd (cc)
+    at false e f = f
+
+-- the first one is taken out: it stands and leaves, or it stands no longer
 module _ (test : Pair → Bool) (rows : List (List Pair)) where
-  pub record IsKeptFirst (agenda now : List Pair) : Type 0 where
-    pub same : now ≡ agenda
-    pub first : None ≡ first_if test (pieces_standing rows agenda)
-    pub left : pieces_standing rows agenda ≡ but_first_if test (pieces_standing rows agenda)
+  pub record IsPassed (agenda now : List Pair) : Type 0 where
+    pub front : is_front_gone rows agenda ≡ true
+    pub rest : now ≡ drop 1 agenda
 
-  pub none_leaves : (agenda now : List Pair) → is_front_gone rows agenda ≡ false → None ≡ first_if test agenda → now ≡ but_first_if test agenda → IsKeptFirst agenda now
-  none_leaves [] now front e f = record { same = f; first = refl; left = refl }
-  none_leaves (x ∷ xs) now front e f = at (test x) refl e f
+  pub gone_passed : (agenda : List Pair) (y : Pair) (now : List Pair) → piece_stands rows y ≡ false → Some y ≡ first_if test agenda → now ≡ but_first_if test agenda → IsPassed agenda now
+  gone_passed [] y now gone e f = absurd (cc)
+  gone_passed (x ∷ xs) y now gone e f = at (test x) e f
     where
-      seen : pieces_standing rows (x ∷ xs) ≡ x ∷ pieces_standing rows xs
-      seen = ap (λ t. cond t (x ∷ pieces_standing rows xs) (pieces_standing rows xs)) (not-false (piece_stands rows x) front)
-
-      at : (t : Bool) → test x ≡ t → None ≡ cond t (Some x) None → now ≡ cond t xs (x ∷ xs) → IsKeptFirst (x ∷ xs) now
-      at true is e f = absurd (cc)
-      at false is e f = record {
-        same = f;
-        first = sym (ap (first_if test) seen ∙ ap (λ t. cond t (Some x) None) is);
-        left = seen ∙ sym (ap (but_first_if test) seen ∙ ap (λ t. cond t (pieces_standing rows xs) (x ∷ pieces_standing rows xs)) is);
-      }
+      at : (t : Bool) → Some y ≡ cond t (Some x) None → now ≡ cond t xs (x ∷ xs) → IsPassed (x ∷ xs) now
+      at false e f = absurd (cc)
+      at true e f =
+          let same : x ≡ y = cc in
+          record { front = ap (λ (z : Pair). not (piece_stands rows z)) same ∙ ap not gone; rest = f }
 
   pub record HasLeft (agenda : List Pair) (y : Pair) (rows_now : List (List Pair)) (now : List Pair) : Type 0 where
     pub listing : IsListing rows_now now
     pub first : Some y ≡ first_if test (pieces_standing rows agenda)
     pub left : pieces_standing rows_now now ≡ but_first_if test (pieces_standing rows agenda)
 
-  pub one_leaves : (agenda : List Pair) (y : Pair) (rows_now : List (List Pair)) (now : List Pair) → IsListing rows agenda → is_front_gone rows agenda ≡ false → Some y ≡ first_if test agenda → now ≡ but_first_if test agenda
+  pub one_leaves : (agenda : List Pair) (y : Pair) (rows_now : List (List Pair)) (now : List Pair) → IsListing rows agenda → piece_stands rows y ≡ true → Some y ≡ first_if test agenda → now ≡ but_first_if test agenda
       → piece_row rows_now (row_of_piece y) ≡ drop 1 (piece_row rows (row_of_piece y)) → ((n : ℕ) → (row_of_piece y ≡ n → ⊥) → piece_row rows_now n ≡ piece_row rows n) → HasLeft agenda y rows_now now
-  one_leaves [] y rows_now now h front e f own others = absurd (cc)
-  one_leaves (x ∷ xs) y rows_now now h front e f own others = at (test x) refl e f
+  one_leaves [] y rows_now now h standing e f own others = absurd (cc)
+  one_leaves (x ∷ xs) y rows_now now h standing e f own others = at (test x) refl e f
     where
-      stays : piece_stands rows x ≡ true
-      stays = not-false (piece_stands rows x) front
-
       at : (t : Bool) → test x ≡ t → Some y ≡ cond t (Some x) None → now ≡ cond t xs (x ∷ xs) → HasLeft (x ∷ xs) y rows_now now
       at false is e f = absurd (cc)
       at true is e f =
           let same : x ≡ y = cc in
+          let stays : piece_stands rows x ≡ true = ap (piece_stands rows) same ∙ standing in
           let own_x : piece_row rows_now (row_of_piece x) ≡ drop 1 (piece_row rows (row_of_piece x)) = subst (λ (z : Pair). piece_row rows_now (row_of_piece z) ≡ drop 1 (piece_row rows (row_of_piece z))) (sym same) own in
           let others_x : (n : ℕ) → (row_of_piece x ≡ n → ⊥) → piece_row rows_now n ≡ piece_row rows n = subst (λ (z : Pair). (n : ℕ) → (row_of_piece z ≡ n → ⊥) → piece_row rows_now n ≡ piece_row rows n) (sym same) others in
           let seen : pieces_standing rows (x ∷ xs) ≡ x ∷ pieces_standing rows_now xs =

@@ -1,6 +1,6 @@
 -- Visits that were split: whose, their slots and their numbers.
-use Rattle.std.specs.Prelude.{◌≡◌, ℕ, ◌+◌, ◌^◌, ◌<◌, ◌&&◌, ◌==◌, nat_le, nat_lt, Bool, true, false, List, [], ◌∷◌, length, take, get_or, Option, Some, None, if◌then◌else◌}
-use Rattle.std.specs.List.{AllByRecursion}
+use Rattle.std.specs.Prelude.{◌≡◌, ℕ, ◌+◌, ◌^◌, ◌≤◌, ◌<◌, ◌&&◌, ◌==◌, nat_le, nat_lt, Bool, true, false, List, [], ◌∷◌, length, take, get_or, Option, Some, None, if◌then◌else◌}
+use Rattle.std.specs.List.{AllByRecursion, filter}
 use Rattle.tiger_base.specs.declared.number.Instance.{Instance}
 use Rattle.tiger_base.specs.declared.number.SlotNo.{SlotNo}
 use Rattle.instance_marks.specs.Marks.{IsNoted}
@@ -67,6 +67,10 @@ pub record AreKeptNoted (p : Params) (marks : List Bool) (items : List (Split ×
 abbrev pub is_sooner : Split → Option (Split × ℕ) → Bool
 is_sooner x None = true
 is_sooner x (Some found) = split_before x found.0
+
+-- one of some is of an instance, or none
+abbrev pub HasOneOf : Instance → List (Split × ℕ) → Type 0
+HasOneOf instance items = length (filter (λ x. is_of instance x.0) items) ≤ 1
 
 -- a visit of an instance, and its place among some; none of the instance comes before it, of as many as were looked at
 pub record IsFoundFor (instance : Instance) (items : List (Split × ℕ)) (many : ℕ) (found : Split × ℕ) : Type 0 where

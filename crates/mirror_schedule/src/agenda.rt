@@ -102,13 +102,12 @@ impl Agenda {
         ensures first { result ≡ first_if (λ x. nat_le x.1 time) self.old }
         ensures left { self.new ≡ but_first_if (λ x. nat_le x.1 time) self.old }
     {
-        let first = self.first()?;
-        if first.1 <= time {
-            self.drop_first();
-            Some(first)
-        } else {
-            None
+        if !self.is_due(time) {
+            return None;
         }
+        let first = self.ranks.pop_first()?;
+        self.front = front_of(&self.ranks);
+        Some(timed_of(&first))
     }
 
     /// The first piece that stands behind the given one, or of all if none is given.

@@ -82,13 +82,11 @@ impl Listing {
         ensures left { self.new ≡ but_first_if (λ x. nat_le x.1 time) self.old }
     {
         // In most ticks nothing leaves, gone or not.
-        if !self.agenda.is_due(time) {
-            return None;
+        if self.agenda.is_due(time) {
+            take_due(&mut self.rows, &mut self.agenda, time)
+        } else {
+            None
         }
-        drop_gone(&self.rows, &mut self.agenda);
-        let first = self.agenda.take_first(time)?;
-        drop_first(&mut self.rows, &first);
-        Some(first)
     }
 
     /// Whether a want asks for one of the pieces.
@@ -105,9 +103,32 @@ impl Listing {
         ensures left { self.new ≡ filter (λ x. not (covers wanted.now x.0)) self.old }
     {
         let count = strike_out(&mut self.rows, wanted);
+        if count == 0 {
+            return 0;
+        }
         drop_gone(&self.rows, &mut self.agenda);
         count
     }
+}
+
+/// Takes out the first piece that stands if it leaves by a time. Those before it that stand no
+/// longer are dropped. It stands apart, since it is seldom called.
+#[inline(never)]
+fn take_due(rows: &mut Vec<Row>, agenda: &mut Agenda, time: Micros) -> Option<TimedPiece>
+    requires { IsListing rows.old.items agenda.old }
+    ensures listing { IsListing rows.new.items agenda.new }
+    ensures first { result
+        ≡ first_if (λ x. nat_le x.1 time) (pieces_standing rows.old.items agenda.old) }
+    ensures left { pieces_standing rows.new.items agenda.new
+        ≡ but_first_if (λ x. nat_le x.1 time) (pieces_standing rows.old.items agenda.old) }
+{
+    while let Some(first) = agenda.take_first(time) {
+        if is_standing(rows, &first) {
+            drop_first(rows, &first);
+            return Some(first);
+        }
+    }
+    None
 }
 
 /// Drops the first of all that came as long as it stands no longer.

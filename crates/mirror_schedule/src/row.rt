@@ -160,8 +160,7 @@ fn has_for(items: &VecDeque<TimedPiece>, want: &Want) -> bool
         ≡ list_any (λ x. same_want want.now (want_of_piece x)) (untimed items.now.items) }
 {
     for i in 0..items.len() {
-        let x = items[i];
-        if asks_for(want, &x.0) {
+        if asks_for(want, &items[i].0) {
             return true;
         }
     }

@@ -1,7 +1,9 @@
 //! The visits that a cub has split and still remembers.
-ghost use Rattle.std.specs.Prelude.{◌≡◌, ◌≤◌, [], length, nat_le, not, filter, count_by, find, option_map, OnOk, OnErr};
+ghost use Rattle.std.specs.Prelude.{◌≡◌, ◌==◌, ◌≤◌, [], true, false, length, nat_le, not, filter, count_by, find, option_map, is_some, IfSome, OnOk, OnErr, if◌then◌else◌};
 ghost use Rattle.std.specs.List.{AllByRecursion};
-ghost use Rattle.mirror_schedule.specs.Splits.{AreNoted, IsSplitOf, IsSoonestOf, key_of, is_of, is_over, is_sooner, with_split, split_before, ends_before, kept_end};
+ghost use Rattle.tiger_base.specs.declared.number.Instance.{Instance};
+ghost use Rattle.instance_marks.specs.Marks.{IsNoted};
+ghost use Rattle.mirror_schedule.specs.Splits.{AreNoted, HasOneOf, IsSplitOf, IsSoonestOf, key_of, is_of, is_over, is_sooner, with_split, split_before, ends_before, kept_end};
 ghost use Rattle.mirror_schedule.specs.Sorted.{IsSorted, gap_from, place_of, without_first, first_if, but_first_if};
 
 use crate::times::has_same_times;
@@ -82,8 +84,9 @@ impl Splits {
         ensures left { self.new ≡ without_first (is_of instance) self.old }
     {
         match find_first(&self.items, &self.marks, instance) {
-            Some((x, place)) => {
+            Some(((x, place), only)) => {
                 self.items.remove(place);
+                forget_if(only, &mut self.marks, instance);
                 Some((x.1, x.2))
             }
             None => {
@@ -172,15 +175,17 @@ fn first_not_before(items: &VecDeque<Ending>, x: &Ending) -> usize
     low
 }
 
-/// The place of the first of an instance's visits, by slot and then visit, and the visit. It is
-/// looked for only if one may be there.
+/// The first of an instance's visits, by slot and then visit, its place, and whether it is known to
+/// be the only one. It is looked for only if one may be there.
 fn find_first(
     items: &VecDeque<Ending>,
     marks: &Vec<bool>,
     instance: Instance,
-) -> Option<(Split, usize)>
+) -> Option<((Split, usize), bool)>
     requires { AreNoted marks.now.items items.now.items }
-    ensures { IsSoonestOf instance items.now.items (length items.now.items) result }
+    ensures first { IsSoonestOf instance items.now.items (length items.now.items)
+        (option_map (λ f. f.0) result) }
+    ensures only { IfSome result (λ f. f.1 ≡ true → HasOneOf instance items.now.items) }
 {
     if may_be_noted(marks, instance) {
         first_of(items, instance)
@@ -190,17 +195,52 @@ fn find_first(
 }
 
 /// The same of any instance.
-fn first_of(items: &VecDeque<Ending>, instance: Instance) -> Option<(Split, usize)>
-    ensures { IsSoonestOf instance items.now.items (length items.now.items) result }
+fn first_of(items: &VecDeque<Ending>, instance: Instance) -> Option<((Split, usize), bool)>
+    ensures first { IsSoonestOf instance items.now.items (length items.now.items)
+        (option_map (λ f. f.0) result) }
+    ensures only { IfSome result (λ f. f.1 ≡ true → HasOneOf instance items.now.items) }
 {
     let mut first = None;
+    let mut only = true;
     for i in 0..items.len() {
         let x = items[i].0;
+        only = is_only(&x, instance, &first, only);
         if x.0 == instance && is_sooner(&x, &first) {
             first = Some((x, i));
         }
     }
-    first
+    beside(first, only)
+}
+
+/// What was found, beside whether it is the only one.
+fn beside(first: Option<(Split, usize)>, only: bool) -> Option<((Split, usize), bool)>
+    ensures { result ≡ option_map (λ f. (f, only)) first }
+{
+    match first {
+        Some(found) => Some((found, only)),
+        None => None,
+    }
+}
+
+/// Whether one visit of an instance was seen at most, with one more beside what was found before.
+fn is_only(x: &Split, instance: Instance, found: &Option<(Split, usize)>, only: bool) -> bool
+    ensures { result ≡ (if is_of instance x.now then not (is_some found.now) else only) }
+{
+    if x.0 == instance {
+        found.is_none()
+    } else {
+        only
+    }
+}
+
+/// Takes the note of an instance away, if its only visit is gone.
+fn forget_if(only: bool, marks: &mut Vec<bool>, instance: Instance)
+    ensures { (v : Instance) → IsNoted marks.old.items v
+        → (only ≡ true → (v.0 == instance.0) ≡ false) → IsNoted marks.new.items v }
+{
+    if only {
+        forget(marks, instance);
+    }
 }
 
 /// Whether a visit comes before one that was found, if one was.

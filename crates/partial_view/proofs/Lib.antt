@@ -1,3 +1,4 @@
+pub mod Beside
 pub mod Calls
 pub mod Counts
 pub mod Dues

@@ -1,7 +1,7 @@
 -- In which buckets the lines of an instance stand where a view changes, and where they are looked for.
 use Rattle.std.proofs.Common.{◌≡◌, ◌==◌, ℕ, ◌<◌, Bool, true, false, cond, nat_lt, List, [], ◌∷◌, length, get_or, Option, Some, None, refl, sym, ap, subst, ◌∙◌}
 use Rattle.std.specs.List.{AllByRecursion}
-use Rattle.std.proofs.lemmas.Bool.{eqb-true}
+use Rattle.std.proofs.lemmas.Bool.{both_ways, eq-eqb, eqb-true}
 use Rattle.tiger_base.specs.declared.number.Instance.{Instance}
 use Rattle.tiger_base.specs.declared.tenancy.Rec.{Rec}
 use Rattle.slot_plan.specs.declared.params.Params.{Params}
@@ -82,3 +82,16 @@ spread_record p grown new r bucket lines is here wider h =
     (all_implies (λ x. IsInSpan (span_of grown (instance_of x).0) (bucket_of p (key_of x))) (λ x. IsInSpan (span_of new (instance_of x).0) (bucket_of p (key_of x)))
     (λ x g. wider (instance_of x).0 (bucket_of p (key_of x)) g) lines h)
     (subst (λ n. IsInSpan (span_of new r.tenancy.instance.0) n) (sym is) here)
+
+-- the span of an instance without a line is emptied
+pub spread_emptied : (p : Params) (old new : List Span) (v : Instance) (lines : List Line) → ((n : ℕ) → (n ≡ v.0 → ⊥) → span_of new n ≡ span_of old n) → first_of v lines ≡ None → AreSpread p old lines → AreSpread p new lines
+unfolding first_of
+spread_emptied p old new v [] same none h = tt
+spread_emptied p old new v (x ∷ xs) same none h = at_test (is_of v x) refl (spread_emptied p old new v xs same) none
+  where
+    at_test : (t : Bool) → is_of v x ≡ t → (first_of v xs ≡ None → AreSpread p old xs → AreSpread p new xs) → cond t (Some x) (first_of v xs) ≡ None → AreSpread p new (x ∷ xs)
+    at_test true is rest e = absurd (cc)
+    at_test false is rest e = (
+      subst (λ (s : Option Span). IsInSpan s (bucket_of p (key_of x))) (sym (same (instance_of x).0 (λ one. both_ways (is_of v x) is (eq-eqb (instance_of x).0 v.0 one)))) h.0,
+      rest e h.1,
+    )

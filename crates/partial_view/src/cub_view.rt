@@ -1,14 +1,14 @@
 //! A view that knows up to which time its states are forwarded, before which its blocks are asked
 //! for, from which on its visits are split, and which disks are full, so that a tick begins where
 //! something may be to do.
-ghost use Rattle.std.specs.Prelude.{◌≡◌, ℕ, ◌+◌, ◌^◌, ◌≤◌, ◌<◌, true, [], IfOk, OnOk, OnErr, IfSome, option_map, is_some, count_by, find};
+ghost use Rattle.std.specs.Prelude.{◌≡◌, ℕ, ◌+◌, ◌^◌, ◌≤◌, ◌<◌, true, [], None, IfOk, OnOk, OnErr, IfSome, option_map, is_some, count_by, find};
 ghost use Rattle.tiger_base.specs.Limits.{most_reading};
 ghost use Rattle.slot_plan.specs.Keys.{IsKey};
 ghost use Rattle.slot_plan.specs.Times.{disk_count};
 ghost use Rattle.std.specs.Option.{ForSome};
 ghost use Rattle.partial_view.specs.Free.{IsFullAt, IsTakenTo, HasEntered};
 ghost use Rattle.partial_view.specs.Lines.{key_of, visit_of, unmarked, is_of};
-ghost use Rattle.partial_view.specs.Views.{Seen, IsWalk, line_at, with_mark, without, without_instance, with_record};
+ghost use Rattle.partial_view.specs.Views.{Seen, IsWalk, line_at, first_of, with_mark, without, without_instance, with_record};
 ghost use Rattle.partial_view.specs.Work.{is_left, is_whole, is_backup, first_between, with_mark_of, without_of};
 ghost use Rattle.partial_view.specs.declared.line.Flag.TheVariants.{Forwarded, Asked, Split};
 ghost use Rattle.partial_view.specs.Adding.{answer_to};
@@ -157,6 +157,14 @@ impl CubView {
         let due = self.plan.due(slot, visit);
         self.full.from = gone_from(&self.plan, self.full.from, due);
         self.view.remove_due(slot, visit, due)
+    }
+
+    /// Keeps in mind that an instance has no record: until it has one, none is looked for.
+    pub fn note_none(&mut self, instance: Instance)
+        requires { first_of instance self.old.lines ≡ None }
+        ensures { self.new ≡ self.old }
+    {
+        self.view.note_none(instance);
     }
 
     /// Removes all records of an instance, and says how many there were.

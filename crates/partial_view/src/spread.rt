@@ -1,6 +1,6 @@
 //! Between which buckets of a view the lines of each instance stand, so that a search for those
 //! of one instance looks into few buckets.
-ghost use Rattle.std.specs.Prelude.{◌≡◌, ◌<◌, ◌≤◌, ℕ, false, [], Some, OnOk, get_or, length};
+ghost use Rattle.std.specs.Prelude.{◌≡◌, ◌<◌, ◌≤◌, ℕ, [], Some, OnOk, get_or, length};
 ghost use Rattle.partial_view.specs.Spread.{IsInSpan, most_spans, no_bucket, span_of};
 
 use std::alloc::Global;
@@ -17,8 +17,8 @@ pub(crate) struct Span {
     pub(crate) high: usize,
 }
 
-/// The spans of the instances with the lowest numbers. A span only grows: a line that is gone
-/// leaves it as it is.
+/// The spans of the instances with the lowest numbers. A line that is gone leaves its span as it
+/// is: a span grows until it is known that the instance has no line.
 #[derive(Drop)]
 pub(crate) struct Spread {
     pub(crate) spans: Vec<Span>,
@@ -104,14 +104,32 @@ impl Spread {
             self.spans[place] = self.spans[place].with(bucket);
         }
     }
+
+    /// Leaves no bucket in the span of an instance.
+    pub(crate) fn empty(&mut self, instance: Instance)
+        ensures { (n : ℕ) → (n ≡ instance.0 → ⊥)
+            → span_of self.new.spans.items n ≡ span_of self.old.spans.items n }
+    {
+        let place = instance.0 as usize;
+        if place < self.spans.len() {
+            self.spans[place] = Span::none();
+        }
+    }
 }
 
-/// Whether a bucket is in a span, if one is given.
-pub(crate) fn is_in(span: Option<Span>, bucket: usize) -> bool
-    ensures { result ≡ false → ¬ IsInSpan span bucket }
+/// The first bucket of a span and the one behind its last, among `count` buckets; all of them, if no
+/// span is given.
+pub(crate) fn bounds(span: Option<Span>, count: usize) -> (usize, usize)
+    ensures order { result.0 ≤ result.1 }
+    ensures inside { result.1 ≤ count }
+    ensures below { (i : ℕ) → i < result.0 → ¬ IsInSpan span i }
+    ensures behind { (i : ℕ) → result.1 ≤ i → i < count → ¬ IsInSpan span i }
 {
     match span {
-        Some(span) => span.low <= bucket && bucket <= span.high,
-        None => true,
+        Some(span) => {
+            let to = span.high.saturating_add(1).min(count);
+            (span.low.min(to), to)
+        }
+        None => (0, count),
     }
 }

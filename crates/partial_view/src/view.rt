@@ -145,6 +145,14 @@ impl View {
         Some(self.wheel.first_of(instance, span)?.rec)
     }
 
+    /// Keeps in mind that an instance has no line: until it has one, none is looked for.
+    pub(crate) fn note_none(&mut self, instance: Instance)
+        requires { first_of instance self.old.lines ≡ None }
+        ensures { self.new ≡ self.old }
+    {
+        self.spread.empty(instance);
+    }
+
     /// The next line behind a slot and visit, or the first if none is given; `None` exactly if
     /// there is none.
     pub fn after(&self, key: Option<(SlotNo, Visit)>) -> Option<Line>

@@ -1,20 +1,19 @@
 //! A wheel of buckets, one for each cub, which the block play times fill in turn: a search looks
 //! into as few of them as it can.
-ghost use Rattle.std.specs.Prelude.{◌≡◌, ◌==◌, ◌+◌, ◌^◌, ◌≤◌, ◌<◌, [], true, None, Some, IfOk, OnOk, OnErr, IfSome, option_map, is_some, count_by, length, min, slice_get};
-ghost use Rattle.std.specs.List.{AllByRecursion};
+ghost use Rattle.std.specs.Prelude.{◌≡◌, ◌==◌, ◌+◌, ◌^◌, ◌≤◌, ◌<◌, [], None, Some, IfOk, OnOk, OnErr, IfSome, option_map, is_some, count_by, length, min, slice_get};
 ghost use Rattle.std.specs.Option.{ForSome};
 ghost use Rattle.slot_plan.specs.Keys.{IsKey, due_of};
 ghost use Rattle.partial_view.specs.Adding.{answer_to};
 ghost use Rattle.partial_view.specs.Lines.{key_of, visit_of, is_of};
 ghost use Rattle.partial_view.specs.Passing.{NonePasses};
-ghost use Rattle.partial_view.specs.Spread.{IsInSpan, AreInSpan};
+ghost use Rattle.partial_view.specs.Spread.{AreInSpan};
 ghost use Rattle.partial_view.specs.Views.{Seen, IsWalk, line_at, first_of, next_behind, with_mark, without, without_instance, with_record};
 ghost use Rattle.partial_view.specs.Wheel.{bucket_at, bucket_lines, all_lines, IsTurn, IsTurnOf, IsWheel, IsThere, sooner};
 ghost use Rattle.partial_view.specs.Work.{is_left, first_between, with_mark_of, without_of, NoneBetween};
 
 use crate::bucket::Bucket;
 use crate::line::{Flag, Line, Work};
-use crate::spread::{Span, is_in};
+use crate::spread::{Span, bounds};
 use crate::turn::{Found, Place, Turn};
 use crate::view::Added;
 use slot_plan::Plan;
@@ -428,22 +427,11 @@ fn first_of(plan: &Plan, buckets: &[Bucket], instance: Instance, span: Option<Sp
     ensures { result ≡ first_of instance (all_lines plan.now.params buckets.now) }
 {
     let mut best = None;
-    for i in (0..buckets.len()).rev() {
-        best = sooner(plan, first_in(&buckets[i], i, instance, span), best);
+    let (from, to) = bounds(span, buckets.len());
+    for i in (from..to).rev() {
+        best = sooner(plan, buckets[i].first_of(instance), best);
     }
     best
-}
-
-/// The first line of an instance in a bucket, which is looked into only if its number is in a span.
-fn first_in(bucket: &Bucket, i: usize, instance: Instance, span: Option<Span>) -> Option<Line>
-    requires { AllByRecursion (λ x. is_of instance x ≡ true → IsInSpan span i) bucket.now.lines }
-    ensures { result ≡ first_of instance bucket.now.lines }
-{
-    if is_in(span, i) {
-        bucket.first_of(instance)
-    } else {
-        None
-    }
 }
 
 /// The one of two lines that comes first, if both are there.
