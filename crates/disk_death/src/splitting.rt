@@ -36,7 +36,11 @@ pub(crate) fn spare<'a>(
         view.now.lines remembered.old) out.old out.new remembered.new) }
 {
     forget(&site.plan, stamp.reading, remembered);
-    split_lines(site, stamp, deaths, view, remembered, out)
+    if is_any_dead(deaths, stamp.beat) {
+        split_lines(site, stamp, deaths, view, remembered, out)
+    } else {
+        Ok(())
+    }
 }
 
 /// Forgets the split visits whose time has come at a reading.
@@ -70,31 +74,8 @@ fn take_leaving(plan: &Plan, time: Micros, pieces: &mut PieceView) -> Option<Pie
     pieces.take_by(time)
 }
 
-/// Goes through all lines in their order, if a disk is dead.
-fn split_lines<'a>(
-    site: &Site,
-    stamp: Stamp,
-    deaths: &[Option<Beat>],
-    view: &View,
-    remembered: &mut PieceView,
-    out: &mut Outbox<Msg<'a>>,
-) -> Result<(), NoMemory>
-    requires reading { stamp.reading ≤ most_reading }
-    requires view { view.now.params ≡ site.now.plan.params }
-    requires remembered { remembered.old.params ≡ site.now.plan.params }
-    ensures { let split = splitting_line site.now.plan.params site.now.cub.0 deaths.now stamp in
-        OnOk result (Did (each_in_turn split view.now.lines remembered.old)
-        out.old out.new remembered.new) }
-{
-    if is_any_dead(deaths, stamp.beat) {
-        split_each(site, stamp, deaths, view, remembered, out)
-    } else {
-        Ok(())
-    }
-}
-
 /// Goes through all lines in their order.
-fn split_each<'a>(
+fn split_lines<'a>(
     site: &Site,
     stamp: Stamp,
     deaths: &[Option<Beat>],

@@ -7,7 +7,7 @@ use Rattle.serde_json.specs.Find.{get}
 use Rattle.json_look.specs.Json.{json_of, has_only, is_one_of, ranged_at}
 use Rattle.json_look.proofs.Inversions.{then-some, map-some, tested-some, in-range, ranged_at-range}
 use Rattle.net_schedule.specs.declared.ring.NetRing.{NetRing}
-use Rattle.net_schedule.specs.Rings.{IsRing, most_cubs, most_own, most_capacity}
+use Rattle.net_schedule.specs.Rings.{IsRing, fewest_cubs, most_cubs, most_own, most_capacity}
 use Rattle.net_read.specs.declared.plan.NetOrder.{NetOrder}
 use Rattle.net_read.specs.Meaning.{ring_of, whole_of, count_of, seed_of, renew_of, given, orders_of, plan_in, plan_of, plan_keys, read_as, formed, net_meaning}
 use Rattle.net_read.specs.Plans.{most_steps, IsCount, NetSaid, IsNetPlan}
@@ -22,7 +22,7 @@ ring-sound d r e =
     let a = then-some (λ (cubs : ℕ). option_and_then (λ (quanta : ℕ). option_map (λ (capacity : ℕ). ring_with cubs quanta capacity) (ranged_at (codes "capacity") 1 most_capacity d)) (ranged_at (codes "quanta") 1 most_own d)) (ranged_at (codes "cubs") 3 most_cubs d) r e in
     let b = then-some (λ (quanta : ℕ). option_map (λ (capacity : ℕ). ring_with a.0 quanta capacity) (ranged_at (codes "capacity") 1 most_capacity d)) (ranged_at (codes "quanta") 1 most_own d) r a.2 in
     let k = map-some (λ (capacity : ℕ). ring_with a.0 b.0 capacity) (ranged_at (codes "capacity") 1 most_capacity d) r b.2 in
-    let cubs = ranged_at-range (codes "cubs") 3 most_cubs d a.0 a.1 in
+    let cubs = ranged_at-range (codes "cubs") fewest_cubs most_cubs d a.0 a.1 in
     let quanta = ranged_at-range (codes "quanta") 1 most_own d b.0 b.1 in
     let capacity = ranged_at-range (codes "capacity") 1 most_capacity d k.0 k.1 in
     subst IsRing k.2 (record {

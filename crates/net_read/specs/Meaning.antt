@@ -4,7 +4,7 @@ use Rattle.serde_json.specs.Data.{Data}
 use Rattle.serde_json.specs.Find.{get, as_number, as_u64}
 use Rattle.json_look.specs.Json.{json_of, ranged_at, below_at, has_only, is_one_of, sized_array}
 use Rattle.net_schedule.specs.declared.ring.NetRing.{NetRing}
-use Rattle.net_schedule.specs.Rings.{quanta_in, most_cubs, most_own, most_capacity}
+use Rattle.net_schedule.specs.Rings.{quanta_in, fewest_cubs, most_cubs, most_own, most_capacity}
 use Rattle.net_read.specs.declared.fault.NetFault.{NetFault}
 use Rattle.net_read.specs.declared.fault.NetFault.TheVariants as faults
 use Rattle.net_read.specs.declared.plan.NetOrder.{NetOrder}
@@ -55,7 +55,7 @@ ring_of d =
     option_and_then (λ cubs.
     option_and_then (λ quanta.
     option_map (λ capacity. record { cubs = cubs; quanta = quanta; capacity = capacity })
-    (ranged_at (codes "capacity") 1 most_capacity d)) (ranged_at (codes "quanta") 1 most_own d)) (ranged_at (codes "cubs") 3 most_cubs d)
+    (ranged_at (codes "capacity") 1 most_capacity d)) (ranged_at (codes "quanta") 1 most_own d)) (ranged_at (codes "cubs") fewest_cubs most_cubs d)
 
 -- what stands under a name that may be missing; if it is there, it is to mean something
 abbrev pub given : {X : Type 0} → (Data → Option X) → Option Data → Option (Option X)

@@ -4,6 +4,9 @@ use net_schedule::{Entry, NetRing};
 use std::marker::Model;
 use tiger_base::Instance;
 
+/// The fewest cubs of a ring.
+pub const FEWEST_CUBS: u64 = 3;
+
 /// The most cubs of a ring.
 pub const MOST_CUBS: u64 = 64;
 

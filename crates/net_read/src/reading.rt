@@ -7,7 +7,7 @@ ghost use Rattle.net_read.specs.Meaning.{GivesAs, formed, ring_of, count_of, see
 
 use crate::fault::NetFault;
 use crate::orders::orders_of;
-use crate::plan::{MOST_CAPACITY, MOST_CUBS, MOST_QUANTA, MOST_STEPS, NetPlan};
+use crate::plan::{FEWEST_CUBS, MOST_CAPACITY, MOST_CUBS, MOST_QUANTA, MOST_STEPS, NetPlan};
 use json_look::{has_only, parse, ranged};
 use net_schedule::NetRing;
 use serde_json::Value;
@@ -23,7 +23,7 @@ fn ring_of(top: &Value) -> Option<NetRing>
     ensures ring { result ≡ ring_of (view top.now) }
     ensures range { IfSome result IsRing }
 {
-    let cubs = ranged(top, "cubs", 3, MOST_CUBS)?;
+    let cubs = ranged(top, "cubs", FEWEST_CUBS, MOST_CUBS)?;
     let quanta = ranged(top, "quanta", 1, MOST_QUANTA)?;
     let capacity = ranged(top, "capacity", 1, MOST_CAPACITY)?;
     Some(NetRing {

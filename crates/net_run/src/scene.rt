@@ -9,7 +9,7 @@ ghost use Rattle.net_run.specs.Sent.{StaysUnasked};
 
 use crate::peak::Peak;
 use crate::place::{place_of, placed_at};
-use net_schedule::{Entry, NetEvent, NetRing, NetWorld, quanta_in, takes};
+use net_schedule::{Entry, NetEvent, NetRing, NetWorld, quanta_in, taken};
 use std::alloc::Global;
 use std::marker::Model;
 use tiger_base::NoMemory;
@@ -141,21 +141,6 @@ fn zeros(alloc: Global, count: usize) -> Result<Vec<u64>, NoMemory>
     ensures { IfOk result (λ v. v.items ≡ replicate count 0) }
 {
     Ok(vec![in alloc; 0; count]?)
-}
-
-/// What an entry takes of a quantum.
-fn taken(ring: &NetRing, entry: Entry, quantum: u32) -> u64
-    requires ring { IsRing ring.now }
-    requires at { entry.at < most_quanta }
-    requires quantum { quantum < most_quanta }
-    ensures is { result ≡ kept_rate ring.now quantum entry }
-    ensures few { result ≤ entry.rate }
-{
-    if takes(ring, entry.at, quantum) {
-        entry.rate
-    } else {
-        0
-    }
 }
 
 /// The lesser of two numbers.

@@ -3,21 +3,27 @@ use Rattle.std.specs.Prelude.{ℕ, ◌+◌, ◌*◌, ◌-◌, ◌<◌, ◌≤◌
 use Rattle.net_schedule.specs.declared.ring.NetRing.{NetRing}
 use Rattle.net_schedule.specs.declared.ring.Entry.{Entry}
 
+-- how few cubs a ring may have, and how many
+abbrev pub fewest_cubs : ℕ
+fewest_cubs = 3
+
 abbrev pub most_cubs : ℕ
 most_cubs = 64
 
+-- the quanta that a cub keeps
 abbrev pub most_own : ℕ
 most_own = 1000
 
 abbrev pub most_quanta : ℕ
 most_quanta = most_cubs * most_own
 
+-- what the rates in a quantum may sum to
 abbrev pub most_capacity : ℕ
-most_capacity = 1000000000000
+most_capacity = 1000000 * 1000000
 
 -- the numbers of a ring lie in their ranges
 pub record IsRing (r : NetRing) : Type 0 where
-  pub some_cubs : 3 ≤ r.cubs
+  pub some_cubs : fewest_cubs ≤ r.cubs
   pub few_cubs : r.cubs ≤ most_cubs
   pub some_quanta : 1 ≤ r.quanta
   pub few_quanta : r.quanta ≤ most_own

@@ -13,6 +13,7 @@ mod turn;
 mod world;
 
 pub use cub::{Asked, NetCub};
+pub use loads::taken;
 pub use packet::Packet;
-pub use ring::{Entry, NetRing, NetState, Own, quanta_in, takes};
+pub use ring::{Entry, NetRing, NetState, Own, quanta_in};
 pub use world::{NetEvent, NetStop, NetWorld};

@@ -5,8 +5,8 @@ ghost use Rattle.net_schedule.specs.Cubs.{IsMoreBy, kept_rate};
 
 use crate::ring::{Entry, NetRing, takes};
 
-/// What an entry takes of a quantum.
-fn taken(ring: &NetRing, entry: Entry, quantum: u32) -> u64
+/// What an entry takes of a quantum: its rate, or nothing.
+pub fn taken(ring: &NetRing, entry: Entry, quantum: u32) -> u64
     requires ring { IsRing ring.now }
     requires at { entry.at < most_quanta }
     requires quantum { quantum < most_quanta }

@@ -68,7 +68,7 @@ pub fn quanta_in(ring: &NetRing) -> u32
 }
 
 /// Whether an entry that begins at one quantum takes another one.
-pub fn takes(ring: &NetRing, at: u32, quantum: u32) -> bool
+pub(crate) fn takes(ring: &NetRing, at: u32, quantum: u32) -> bool
     requires ring { IsRing ring.now }
     requires at { at < most_quanta }
     requires quantum { quantum < most_quanta }

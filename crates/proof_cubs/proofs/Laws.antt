@@ -39,16 +39,18 @@ module _ (p : Params) (lives : Lives) (beyond : Beyond) (set : Setting p lives b
 
   laws_in : LifeLaws p R (facts_among p lives beyond)
   laws_in = record {
-    inserts = λ put. inserts p lives beyond set put;
-    inserted = λ w. inserted p lives beyond set w;
-    free = λ put entered le slot. free p lives beyond set put entered le slot;
-    taken = λ w. taken p lives beyond w;
-    meets = λ got low high. meets p set.plan lives beyond orders order set.fits got low high;
-    late = λ w back le. late p lives beyond set.lived set.fits w back le;
-    sends = λ w. sends p lives beyond set w;
-    ahead = λ w. w.ahead;
-    forwards = λ entered le w first here more undue soon. forwards p lives beyond set entered le w here more undue soon;
-    shows = λ w. shows p lives beyond set w;
+    states = record {
+      inserts = λ put. inserts p lives beyond set put;
+      inserted = λ w. inserted p lives beyond set w;
+      free = λ put entered le slot. free p lives beyond set put entered le slot;
+      taken = λ w. taken p lives beyond w;
+      meets = λ got low high. meets p set.plan lives beyond orders order set.fits got low high;
+      late = λ w back le. late p lives beyond set.lived set.fits w back le;
+      sends = λ w. sends p lives beyond set w;
+      ahead = λ w. w.ahead;
+      forwards = λ entered le w first here more undue soon. forwards p lives beyond set entered le w here more undue soon;
+      shows = λ w. shows p lives beyond set w;
+    };
     rest = cub_rest;
   }
 

@@ -133,8 +133,9 @@ pub record IsShown (p : Params) (r : Facts) (c : ℕ) (t : Tenancy) (n b : ℕ) 
   pub since : IsUnheld p r c t.instance.0 b beat
   pub life : IsSameLife r c beat b
 
--- The laws of records and states, each of one cub.
-pub record StateLaws (p : Params) (r : Facts) : Type 0 where
+-- The laws of records and states, each of one cub, of which r tells. What was sent to it, and is told
+-- by `among`, was sent by another.
+pub record StateLawsAmong (p : Params) (r among : Facts) : Type 0 where
   -- Insertion: a Put is in a tick, in the window, at a visit of the cub's own or of its dead
   -- predecessor.
   pub inserts : {c : ℕ} {t : Tenancy} {x : ℕ} → r.Put c t x → Inserts p r c t x
@@ -151,7 +152,7 @@ pub record StateLaws (p : Params) (r : Facts) : Type 0 where
   -- Viewer state: a state of one of its tenancy's visits finds each place that it gives taken, or
   -- takes it.
   pub meets : {c m y : ℕ} {t : Tenancy}
-      → r.Got c t m y → t.first ≤ m → m ≤ t.last → Meeting p r c t m y
+      → r.Got c t m y → t.first ≤ m → m ≤ t.last → Meeting p among c t m y
   -- Viewer state: what enters a cub that has come back is due late enough after its return.
   pub late : {c n y w : ℕ} {t : Tenancy}
       → r.Took c t n y → r.Returned c w → w ≤ y → enters_from p (time_of p w) ≤ due p t.slot.0 n
@@ -168,3 +169,7 @@ pub record StateLaws (p : Params) (r : Facts) : Type 0 where
       → Sends r a t (n + 1) b ⊎ ReachedBy r a t.instance.0 b
   -- Releasing: a tick leaves no record that is due, and a deschedule leaves none of its instance.
   pub shows : {c n b : ℕ} {t : Tenancy} → r.Shows c t n b → IsShown p r c t n b
+
+-- The same, if one telling has all.
+abbrev pub StateLaws : Params → Facts → Type 0
+StateLaws p r = StateLawsAmong p r r

@@ -64,7 +64,7 @@ module _ (p : Params) (r s : Facts) (firsts : AreOfLives r (IsFirstLife r))
       (λ a.
       let k = laters.put c t x a in
       let by = k.by in
-      let before = (later.inserts a).first k.beat k.returned in
+      let before = (later.states.inserts a).first k.beat k.returned in
       absurd (omega arith))
       h
 
@@ -73,46 +73,46 @@ module _ (p : Params) (r s : Facts) (firsts : AreOfLives r (IsFirstLife r))
 
   states : StateLaws p J
   states = record {
-    inserts = λ {c} {t} {x} k. inserts_of f (first.inserts (put_first c t x k));
+    inserts = λ {c} {t} {x} k. inserts_of f (first.states.inserts (put_first c t x k));
     inserted = λ k. ⊎_elim
-        (λ a. let h = first.inserted a in (inl h.0, h.1))
-        (λ a. let h = later.inserted a in (inr h.0, h.1))
+        (λ a. let h = first.states.inserted a in (inl h.0, h.1))
+        (λ a. let h = later.states.inserted a in (inr h.0, h.1))
         k;
     free = λ {c} {t} {u} {x} {y} k e le slot.
         let here = put_in k in
         ⊎_elim
         (λ a. inl a)
         (λ a. inr (reached_of f.facts a))
-        (first.free (put_first c t x k) (in_first_life here (kept_entered f here le e)) le slot);
+        (first.states.free (put_first c t x k) (in_first_life here (kept_entered f here le e)) le slot);
     taken = λ k. ⊎_elim
-        (λ a. taken_of f.facts (first.taken a))
-        (λ a. taken_of g.facts (later.taken a))
+        (λ a. taken_of f.facts (first.states.taken a))
+        (λ a. taken_of g.facts (later.states.taken a))
         k;
     meets = λ k low high. ⊎_elim
-        (λ a. meeting_of f (first.meets a low high))
-        (λ a. meeting_of g (later.meets a low high))
+        (λ a. meeting_of f (first.states.meets a low high))
+        (λ a. meeting_of g (later.states.meets a low high))
         k;
     late = λ k back le. ⊎_elim
-        (λ a. first.late a back le)
-        (λ a. later.late a back le)
+        (λ a. first.states.late a back le)
+        (λ a. later.states.late a back le)
         k;
     sends = λ k. ⊎_elim
-        (λ a. sent_of f (first.sends a))
-        (λ a. sent_of g (later.sends a))
+        (λ a. sent_of f (first.states.sends a))
+        (λ a. sent_of g (later.states.sends a))
         k;
-    ahead = λ k. ⊎_elim (λ a. first.ahead a) (λ a. later.ahead a) k;
+    ahead = λ k. ⊎_elim (λ a. first.states.ahead a) (λ a. later.states.ahead a) k;
     forwards = λ {a} {t} {n} {y} {b} {l} e le tick here own more undue soon.
         ⊎_elim
         (λ k. inl (sends_of f.facts k))
         (λ k. inr (reached_of f.facts k))
-        (first.forwards
+        (first.states.forwards
         (in_first_life here (kept_entered f here le e))
         le
         (in_first_life here (f.kept.ticked here (omega arith) tick))
         here own more undue soon);
     shows = λ k. ⊎_elim
-        (λ a. shown_of f (first.shows a))
-        (λ a. shown_of g (later.shows a))
+        (λ a. shown_of f (first.states.shows a))
+        (λ a. shown_of g (later.states.shows a))
         k;
   }
 

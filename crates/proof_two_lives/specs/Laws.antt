@@ -6,10 +6,10 @@ use Rattle.tiger_base.specs.declared.tenancy.Tenancy.{Tenancy}
 use Rattle.slot_plan.specs.declared.params.Params.{Params}
 use Rattle.slot_plan.specs.Times.{time_of, due, cub_of}
 use Rattle.stripe_layout.specs.declared.catalogue.Catalogue.{Catalogue}
-use Rattle.proof_schedule.specs.Facts.{Facts, Ended, Entered, ReachedBy, BelievedBy, EnteredBy, IsFirstLife, IsSameLife, IsGiven, enters_from}
+use Rattle.proof_schedule.specs.Facts.{Facts, Ended, ReachedBy, BelievedBy, EnteredBy, IsFirstLife, IsSameLife, enters_from}
 use Rattle.proof_schedule.specs.RunLaws.{RunLaws}
 use Rattle.proof_schedule.specs.LinkLaws.{LinkLaws}
-use Rattle.proof_schedule.specs.StateLaws.{StateLaws, Stands, Inserts, Taken, Meeting, SendsFirst, Forwards, Sends, IsShown}
+use Rattle.proof_schedule.specs.StateLaws.{StateLawsAmong, Stands, Sends}
 use Rattle.proof_schedule.specs.StartLaws.{Comes, Waits, IsPlacedBy, IsInWindow}
 use Rattle.proof_schedule.specs.WatchLaws.{WatchLaws}
 use Rattle.proof_schedule.specs.StopLaws.{StopLaws}
@@ -58,31 +58,12 @@ pub record CubRest (p : Params) (r : Facts) : Type 0 where
 -- What the cubs' rules on records, starts, heartbeats and deschedules give of one life of each cub.
 -- What was sent to a cub, and is told by `among`, was sent by another in any of its lives.
 pub record LifeLaws (p : Params) (r among : Facts) : Type 0 where
-  pub inserts : {c : ℕ} {t : Tenancy} {x : ℕ} → r.Put c t x → Inserts p r c t x
-  pub inserted : {c : ℕ} {t : Tenancy} {n x : ℕ}
-      → r.Inserted c t n x → r.Put c t x × IsGiven p c t t.first n
-  pub free : {c : ℕ} {t u : Tenancy} {x y : ℕ}
-      → r.Put c t x → Entered r c u t.first y → y ≤ x → u.slot.0 ≡ t.slot.0
-      → (u.instance.0 ≡ t.instance.0) ⊎ ReachedBy r c u.instance.0 x
-  pub taken : {c : ℕ} {t : Tenancy} {n y : ℕ} → r.Took c t n y → Taken p r c t n y
-  pub meets : {c m y : ℕ} {t : Tenancy}
-      → r.Got c t m y → t.first ≤ m → m ≤ t.last → Meeting p among c t m y
-  pub late : {c n y w : ℕ} {t : Tenancy}
-      → r.Took c t n y → r.Returned c w → w ≤ y → enters_from p (time_of p w) ≤ due p t.slot.0 n
-  pub sends : {a k : ℕ} {t : Tenancy} {m x : ℕ}
-      → r.Sent a k t m x → SendsFirst p r a k t m x ⊎ Forwards p r a t m x
-  pub ahead : {a k m x : ℕ} {t : Tenancy} → r.Sent a k t m x → (k ≡ 1) ⊎ (k ≡ 2)
-  pub forwards : {a : ℕ} {t : Tenancy} {n y b l : ℕ}
-      → Entered r a t n y → y ≤ b → r.Ticked a b l → IsFirstLife r a b → a ≡ cub_of p n → n < t.last
-      → l < due p t.slot.0 n → due p t.slot.0 (n + 1) ≤ l + p.min_lead
-      → Sends r a t (n + 1) b ⊎ ReachedBy r a t.instance.0 b
-  pub shows : {c n b : ℕ} {t : Tenancy} → r.Shows c t n b → IsShown p r c t n b
+  pub states : StateLawsAmong p r among
   pub rest : CubRest p r
 
--- What the cubs' rules on records, starts, heartbeats and deschedules give.
-pub record CubLaws (p : Params) (r : Facts) : Type 0 where
-  pub states : StateLaws p r
-  pub rest : CubRest p r
+-- What they give, if one telling has all lives.
+abbrev pub CubLaws : Params → Facts → Type 0
+CubLaws p r = LifeLaws p r r
 
 -- What the runner, the clocks, the links and the controller give.
 pub record RingLaws (p : Params) (r : Facts) : Type 0 where
