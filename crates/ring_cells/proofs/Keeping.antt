@@ -13,6 +13,7 @@ use Rattle.node_kit.specs.Links.{Links, links_of, link_count, viewers_of}
 use Rattle.node_kit.specs.Rows.{each_below}
 use Rattle.node_kit.specs.Steps.{Input, Deed}
 use Rattle.run_facts.specs.Rings.{Traffic, Ring}
+use Rattle.ring_engine.specs.Passing.{AreAtHand}
 use Rattle.ring_engine.specs.Places.{new_channel}
 use Rattle.ring_links.specs.Ends.{LineId}
 use Rattle.ring_cells.specs.Cells.{Seen, ring_in, IsAtWork, IsMembership, IsShareOf}
@@ -37,13 +38,19 @@ pub dials-size : (c : Course) (numbers : List NodeNo) (dials : List Setting) →
 dials-size c numbers dials all = ap length all ∙ length-map numbers (λ (n : NodeNo). setting_of c n.0)
 
 module _ {M S : Type 0} (note : M → Note) (step : S → Input M → Deed M S) (stands : S → Params → ℕ → Type 0) (courses : List Course) (opened : List S) (line_of : ℕ → LineId) where
-  -- a member is one of the nodes
-  pub work-inside : (numbers : List NodeNo) (dials : List Setting) (links : Links) (b q : ℕ) (ring : Ring M S) (ins : List (Entrance M)) (outs : List (List (Exit M))) (m : NodeNo)
-      → IsAtWork note step stands courses opened line_of numbers dials links b q ring ins outs → slice_get numbers q ≡ Some m → m.0 < viewers_of links + 1
-  work-inside numbers dials links b q ring ins outs m h seat =
-      let low = h.inside m.0 (held-at numbers q m seat) in
-      let same = ap viewers_of h.links_are in
-      omega (arith, low, same)
+  -- its members are at hand
+  pub work-at-hand : (numbers : List NodeNo) (dials : List Setting) (links : Links) (b q : ℕ) (ring : Ring M S) (ins : List (Entrance M)) (outs : List (List (Exit M)))
+      → IsAtWork note step stands courses opened line_of numbers dials links b q ring ins outs → AreAtHand stands numbers dials links b ring
+  work-at-hand numbers dials links b q ring ins outs h = record {
+    params = h.course.plan.params;
+    links_are = h.links_are;
+    inside = λ r n seat.
+        let low = h.inside n.0 (held-at numbers r n seat) in
+        let same = ap viewers_of h.links_are in
+        omega (arith, low, same);
+    clocks = dials-size h.course numbers dials h.dialled;
+    manned = h.manned;
+  }
 
   -- the rows of a share and what is lent of them are the same
   pub work-lent : (numbers numbers' : List NodeNo) (dials dials' : List Setting) (ins ins' : List (Entrance M)) (links : Links) (b q : ℕ) (ring : Ring M S) (outs : List (List (Exit M)))

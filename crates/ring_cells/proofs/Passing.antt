@@ -1,4 +1,4 @@
--- The turns of members with out-ports and of those without, and the members that are passed over.
+-- The turns of members with out-ports and of those without.
 use Rattle.std.proofs.Common.{◌≡◌, ◌≢◌, ℕ, zero, suc, ◌+◌, ◌-◌, ◌<◌, ◌≤◌, List, [], ◌∷◌, length, Some, refl, ap, sym, ◌∙◌, subst, arith}
 use Rattle.std.specs.Prelude.{slice_get, slice_set}
 use Rattle.std.proofs.lemmas.Option.{none-some}
@@ -17,18 +17,15 @@ use Rattle.node_kit.proofs.Rows.{get-below}
 use Rattle.run_facts.specs.Beats.{beat_events}
 use Rattle.run_facts.specs.Rings.{Traffic, Ring}
 use Rattle.run_facts.proofs.Rows.{same-element}
-use Rattle.ring_engine.specs.Idle.{IsIdle}
+use Rattle.ring_engine.specs.Passing.{TookTurns, HaveTakenTurns}
 use Rattle.ring_engine.specs.Traffic.{collected}
 use Rattle.ring_engine.specs.Turns.{Scene, scene, turn, KeepsReady}
 use Rattle.ring_engine.specs.Whole.{with_node}
-use Rattle.ring_engine.proofs.Happening.{idle-turned, idle-turned-keeps}
-use Rattle.ring_engine.proofs.Idling.{with-same}
 use Rattle.ring_engine.proofs.Running.{get-set_same, get-set_other, length-set_at}
 use Rattle.ring_links.specs.Ends.{LineId}
 use Rattle.ring_cells.specs.Moves.{HaveLived}
 use Rattle.ring_cells.specs.Shares.{Entrance, Exit, IsLeaving, AreClosedTo, HasEnded}
 use Rattle.ring_cells.proofs.Ending.{ended-open}
-use Rattle.ring_cells.proofs.Pouring.{get-map, get-there}
 use Rattle.ring_cells.proofs.Working.{At, work-turn, lived-turn}
 
 no-row : {A : Type 0} (xs : List A) (q : ℕ) (x : A) → length xs ≤ q → slice_get xs q ≡ Some x → ⊥
@@ -83,52 +80,25 @@ module _ {M S : Type 0} (note : M → Note) (step : S → Input M → Deed M S) 
               none none outs its_row row_leads (ended-open b none ts) then_row other_rows refl;
         }
 
-  -- of an idle member without out-ports
-  idle-turn : (q : ℕ) (ring : Ring M S) (ins : List (Entrance M)) (outs : List (List (Exit M))) → At note step stands courses opened line_of numbers dials links b q ring ins outs
-      → b ≤ most_beats → AreClosedTo b ins → length outs ≤ q
-      → (m : NodeNo) (d : Setting) (s : S) (life : Lifetime) (j : List Entry) → slice_get numbers q ≡ Some m → slice_get dials q ≡ Some d
-      → slice_get ring.nodes q ≡ Some s → slice_get ring.lives q ≡ Some life → slice_get ring.journals q ≡ Some j
-      → IsIdle step (stamp_by d b) (in_links_of links m.0) s life ring.channels → GoesOn q (q + 1) ring ring ins outs
-  idle-turn q ring ins outs h early shut long m d s life j seat its_dial hs hl hj is =
-      let here : Scene M S = scene s life j ring.channels in
-      let stamp = stamp_by d b in
-      let row = in_links_of links m.0 in
-      let turned = idle-turned note step stamp row here is.none is.left is.acts_then is.unended is.rests in
-      let keeps = idle-turned-keeps note step stands stamp row here is.none is.left is.acts_then is.unended is.rests in
-      subst (λ (r : Ring M S). GoesOn q (q + 1) ring r ins outs) (with-same ring q s life j hs hl hj)
-      (other-turn q ring ins outs h early shut m d stamp s s life life j j ring.channels seat its_dial refl hs hl hj turned keeps long)
-
-  -- the members from a place up to another are idle
-  abbrev pub AreIdleTo : ℕ → ℕ → Ring M S → Type 0
-  AreIdleTo from to ring =
-      (k : ℕ) (n : NodeNo) (d : Setting) (s : S) (life : Lifetime) → from ≤ k → k < to → slice_get numbers k ≡ Some n
-      → slice_get dials k ≡ Some d → slice_get ring.nodes k ≡ Some s → slice_get ring.lives k ≡ Some life
-      → IsIdle step (stamp_by d b) (in_links_of links n.0) s life ring.channels
-
-  idle-turns : (more q : ℕ) (ring : Ring M S) (ins : List (Entrance M)) (outs : List (List (Exit M))) → At note step stands courses opened line_of numbers dials links b q ring ins outs
-      → b ≤ most_beats → AreClosedTo b ins → length outs ≤ q → q + more ≤ length numbers → AreIdleTo q (q + more) ring → GoesOn q (q + more) ring ring ins outs
-  idle-turns zero q ring ins outs h early shut long inside idle =
+  -- the members at the places from one on, which have none, have had their turns
+  pub turns-go-on : (more q : ℕ) (ring ring' : Ring M S) (ins : List (Entrance M)) (outs : List (List (Exit M))) → At note step stands courses opened line_of numbers dials links b q ring ins outs
+      → b ≤ most_beats → AreClosedTo b ins → length outs ≤ q → TookTurns note step stands numbers dials links b q more ring ring' → GoesOn q (q + more) ring ring' ins outs
+  turns-go-on zero q ring ring' ins outs h early shut long same =
       let e : q ≡ q + 0 = omega arith in
-      subst (λ x. GoesOn q x ring ring ins outs) e (record { work = h; lived = λ old l. l })
-  idle-turns (suc more) q ring ins outs h early shut long inside idle =
-      let nodes = h.manned.nodes in
-      let lives = h.manned.lives in
-      let journals = h.manned.journals in
-      let m = get-there numbers q (omega (arith, inside)) in
-      let s = get-there ring.nodes q (omega (arith, inside, nodes)) in
-      let life = get-there ring.lives q (omega (arith, inside, lives)) in
-      let j = get-there ring.journals q (omega (arith, inside, journals)) in
-      let k : Setting = setting_of h.course m.0.0 in
-      let d : slice_get dials q ≡ Some k = ap (λ (ds : List Setting). slice_get ds q) h.dialled ∙ get-map (λ (n : NodeNo). setting_of h.course n.0) numbers q m.0 m.1 in
-      let one = idle-turn q ring ins outs h early shut long m.0 k s.0 life.0 j.0 m.1 d s.1 life.1 j.1 (idle q m.0 k s.0 life.0 (omega arith) (omega arith) m.1 d s.1 life.1) in
-      let e : q + 1 + more ≡ q + suc more = omega arith in
-      let rest = idle-turns more (q + 1) ring ins outs one.work early shut (omega (arith, long)) (omega (arith, inside))
-      (λ k n d x life low high. idle k n d x life (omega (arith, low)) (omega (arith, high))) in
-      subst (λ x. GoesOn q x ring ring ins outs) e (record { work = rest.work; lived = λ old l. rest.lived old (one.lived old l) })
+      subst (λ x. GoesOn q x ring ring' ins outs) e (subst (λ (r : Ring M S). GoesOn q q ring r ins outs) (sym same) (record { work = h; lived = λ old l. l }))
+  turns-go-on (suc more) q ring ring' ins outs h early shut long taken =
+      let t = taken.2 in
+      let most = turns-go-on more q ring taken.0 ins outs h early shut long taken.1 in
+      let one = other-turn (q + more) taken.0 ins outs most.work early shut t.number t.dial t.stamp t.state t.then_state t.life t.then_life t.journal t.then_journal t.then_channels
+      t.seat t.clock t.shown t.node_is t.life_is t.journal_is t.turned t.keeps (omega (arith, long)) in
+      let e : q + more + 1 ≡ q + suc more = omega arith in
+      subst (λ x. GoesOn q x ring ring' ins outs) e
+      (subst (λ (r : Ring M S). GoesOn q (q + more + 1) ring r ins outs) (sym t.after) (record { work = one.work; lived = λ old l. one.lived old (most.lived old l) }))
 
-  pub idle-to : (q q' : ℕ) (ring : Ring M S) (ins : List (Entrance M)) (outs : List (List (Exit M))) → At note step stands courses opened line_of numbers dials links b q ring ins outs
-      → b ≤ most_beats → AreClosedTo b ins → length outs ≤ q → q ≤ q' → q' ≤ length numbers → AreIdleTo q q' ring → GoesOn q q' ring ring ins outs
-  idle-to q q' ring ins outs h early shut long low high idle =
-      let e : q + (q' - q) ≡ q' = omega (arith, low) in
-      subst (λ x. GoesOn q x ring ring ins outs) e
-      (idle-turns (q' - q) q ring ins outs h early shut long (omega (arith, low, high)) (subst (λ x. AreIdleTo q x ring) (sym e) idle))
+  -- so have all that are left of the beat
+  pub goes-over : (first q : ℕ) (ring ring' : Ring M S) (ins : List (Entrance M)) (outs : List (List (Exit M))) → first ≡ q → At note step stands courses opened line_of numbers dials links b q ring ins outs
+      → b ≤ most_beats → AreClosedTo b ins → length outs ≤ q → HaveTakenTurns note step stands numbers dials links b first (length numbers) ring ring' → GoesOn q (length numbers) ring ring' ins outs
+  goes-over first q ring ring' ins outs same h early shut long taken =
+      subst (λ k. GoesOn k (length numbers) ring ring' ins outs) same
+      (subst (λ k. GoesOn first k ring ring' ins outs) taken.places
+      (turns-go-on taken.more first ring ring' ins outs (subst (λ k. At note step stands courses opened line_of numbers dials links b k ring ins outs) (sym same) h) early shut (omega (arith, long, same)) taken.turns))

@@ -1,7 +1,7 @@
 -- Messages that are received on an in-link.
-use Rattle.std.proofs.Common.{◌≡◌, ℕ, ◌≤◌, List, [], ◌∷◌, ◌++◌, refl, ap, sym, ◌∙◌, subst, le_trans, le_refl, append_assoc, append-nil}
+use Rattle.std.proofs.Common.{◌≡◌, ℕ, ◌≤◌, List, [], ◌∷◌, ◌++◌, refl, ap, sym, ◌∙◌, le_trans, le_refl, append_assoc, append-nil}
 use Rattle.run_facts.specs.declared.mail.Flight.{Flight}
-use Rattle.ring_links.specs.Flights.{IsOrdered, AllFrom}
+use Rattle.ring_links.specs.Flights.{AllFrom}
 use Rattle.ring_links.proofs.Orders.{from_lower}
 use Rattle.ring_cells.specs.Flows.{Inflow, HasReceived}
 
@@ -32,32 +32,4 @@ module _ {M : Type 0} where
     rises = le_trans h.rises g.rises;
     of_open = from-append i.closed h.more g.more h.of_open (from_lower i.closed j.closed g.more h.rises g.of_open);
     in_order = λ o. g.in_order (h.in_order o);
-  }
-
-  -- nothing came, and more may be closed
-  pub received-closed : (i j k : Inflow M) → i ≡ k → j.link ≡ i.link → j.line ≡ i.line → j.flights ≡ i.flights → j.waiting ≡ i.waiting → i.closed ≤ j.closed
-      → HasReceived k j
-  received-closed i j k same link line flights waiting rises = subst (λ q. HasReceived q j) same record {
-    same_link = link;
-    same_line = line;
-    more = [];
-    all = flights ∙ sym (append-nil i.flights);
-    waits = waiting ∙ sym (append-nil i.waiting);
-    rises = rises;
-    of_open = tt;
-    in_order = λ h. subst IsOrdered (sym flights) h;
-  }
-
-  -- one message came
-  pub received-one : (i j k : Inflow M) (p : Flight M) → i ≡ k → j.link ≡ i.link → j.line ≡ i.line → j.flights ≡ i.flights ++ p ∷ [] → j.waiting ≡ i.waiting ++ p ∷ []
-      → j.closed ≡ i.closed → i.closed ≤ p.sent → IsOrdered j.flights → HasReceived k j
-  received-one i j k p same link line flights waiting closed of_open ordered = subst (λ q. HasReceived q j) same record {
-    same_link = link;
-    same_line = line;
-    more = p ∷ [];
-    all = flights;
-    waits = waiting;
-    rises = subst (λ b. i.closed ≤ b) (sym closed) (le_refl i.closed);
-    of_open = (of_open, tt);
-    in_order = λ _. ordered;
   }

@@ -14,7 +14,8 @@ use Rattle.run_facts.specs.Events.{NodeEvent}
 use Rattle.run_facts.specs.Rings.{Traffic, Ring}
 use Rattle.ring_links.specs.Ends.{LineId}
 use Rattle.ring_cells.proofs.Inflows.{inflow-waits}
-use Rattle.ring_cells.specs.Shares.{Entrance, Exit, inflow_of, holds, IsEntering, IsShare, IsFitted, IsManned, HasPoured, links_in, AreApart}
+use Rattle.ring_engine.specs.Passing.{IsManned}
+use Rattle.ring_cells.specs.Shares.{Entrance, Exit, inflow_of, holds, IsEntering, IsShare, IsFitted, HasPoured, links_in, AreApart}
 use Rattle.ring_cells.proofs.Pouring.{same-port, open-poured}
 use Rattle.ring_cells.proofs.Turning.{same-ends, held-not}
 

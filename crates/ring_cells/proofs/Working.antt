@@ -23,6 +23,7 @@ use Rattle.run_facts.specs.Beats.{beat_events, after_beat, opening_of, pass}
 use Rattle.run_facts.specs.Events.{NodeEvent, Past, AreFair, sends_along, takes_along}
 use Rattle.run_facts.specs.Rings.{Traffic, Ring, IsAt}
 use Rattle.run_facts.proofs.Rows.{same-element}
+use Rattle.ring_engine.specs.Passing.{IsManned}
 use Rattle.ring_engine.specs.Traffic.{collected, AreOpen}
 use Rattle.ring_engine.specs.Turns.{Scene, scene, turn, IsReady, IsReadyFor, KeepsReady}
 use Rattle.ring_engine.specs.Whole.{with_node}
@@ -31,7 +32,7 @@ use Rattle.ring_links.specs.Ends.{LineId}
 use Rattle.ring_cells.specs.Kept.{IsInflow, IsOutflow}
 use Rattle.ring_cells.specs.Cells.{IsAtWork}
 use Rattle.ring_cells.specs.Moves.{HasGoneThrough, HaveLived}
-use Rattle.ring_cells.specs.Shares.{Entrance, Exit, holds, come_to, outflow_of, inflow_of, IsInner, IsEntrance, IsExit, IsShare, IsFitted, IsManned, IsLeaving, AreClosedTo, HasEnded, HasPoured, links_out, AreApart, gone_out}
+use Rattle.ring_cells.specs.Shares.{Entrance, Exit, holds, come_to, outflow_of, inflow_of, IsInner, IsEntrance, IsExit, IsShare, IsFitted, IsLeaving, AreClosedTo, HasEnded, HasPoured, links_out, AreApart, gone_out}
 use Rattle.ring_engine.proofs.Progressing.{more, same-past}
 use Rattle.ring_cells.proofs.Ending.{ended-open, open-ended}
 use Rattle.ring_cells.proofs.Pouring.{get-map, get-unmap, get-there}

@@ -12,7 +12,8 @@ use Rattle.node_kit.specs.Steps.{Input, Deed}
 use Rattle.run_facts.specs.Events.{NodeEvent}
 use Rattle.run_facts.specs.Rings.{Traffic, Ring}
 use Rattle.ring_links.specs.Ends.{LineId}
-use Rattle.ring_cells.specs.Shares.{Entrance, Exit, holds, come_to, IsShare, IsFitted, IsManned}
+use Rattle.ring_engine.specs.Passing.{IsManned}
+use Rattle.ring_cells.specs.Shares.{Entrance, Exit, holds, come_to, IsShare, IsFitted}
 
 -- a share: its number; the number of beats and that of the next one; whether memory ran out in it; by place its members
 -- with their clocks, lives and journals; the links of the run and what is under way on each; its in-ports; and by place

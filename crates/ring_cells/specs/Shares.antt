@@ -166,18 +166,6 @@ pub record IsFitted {M : Type 0} (p : Params) (numbers : List NodeNo) (ins : Lis
       → (n : NodeNo) × (slice_get numbers q ≡ Some n) × IsLeaving p numbers n o.link
   pub outs_apart : (q : ℕ) (row : List (Exit M)) → slice_get outs q ≡ Some row → AreApart (links_out row)
 
--- each place has a node that stands at its number, a life and a journal, and there is a channel for each link of the
--- plan, over which a message may be sent in the beat
-pub record IsManned {M S : Type 0} (stands : S → Params → ℕ → Type 0) (p : Params) (numbers : List NodeNo) (b : ℕ)
-    (ring : Ring M S) : Type 0 where
-  pub stand : (q : ℕ) (n : NodeNo) (s : S) → slice_get numbers q ≡ Some n → slice_get ring.nodes q ≡ Some s
-      → stands s p n.0
-  pub nodes : length ring.nodes ≡ length numbers
-  pub lives : length ring.lives ≡ length numbers
-  pub journals : length ring.journals ≡ length numbers
-  pub channels : link_count (links_of p) ≡ length ring.channels
-  pub are_open : AreOpen b ring.channels
-
 -- of these numbers those at the places below q have come through beat b, and the others to it
 abbrev pub holds_below : List NodeNo → ℕ → ℕ → Bool
 holds_below [] q k = false

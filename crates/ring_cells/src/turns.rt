@@ -1,7 +1,6 @@
 //! A beat of a share: each member has its turn in it, and then it is closed on the member's out-ports.
 ghost use Rattle.std.specs.Prelude.{◌≡◌, ◌+◌, ◌<◌, ◌≤◌, ◌∷◌, [], length, OnOk};
 ghost use Rattle.tiger_base.specs.Limits.{most_beats};
-ghost use Rattle.run_facts.specs.Rings.{Ring};
 ghost use Rattle.ring_engine.specs.Places.{ring};
 ghost use Rattle.ring_cells.specs.Shares.{AreClosedTo};
 ghost use Rattle.ring_cells.specs.Cells.{IsAtWork};
@@ -11,7 +10,7 @@ use crate::named::Named;
 use crate::ports::{InPort, OutPort};
 use crate::sending::end_turn;
 use node_kit::{Dial, Journal, Life, Node, Outbox};
-use ring_engine::{Mail, live, next_busy, number_at};
+use ring_engine::{Mail, live, number_at, pass_from};
 use std::sync::Wait;
 use tiger_base::{Beat, Message, NoMemory, NodeNo, Sequence};
 
@@ -47,13 +46,12 @@ pub(crate) fn pass_beat<M: Message, T: Node<M>, W: Named<T>, R: Wait>(
     pass_senders::<M, T, W, R>(
         rt, beat, numbers, dials, ins, nodes, lives, journals, mail, outs, outputs,
     )?;
-    pass_others::<M, T, W>(
+    // The others have none. Those that are idle are passed over.
+    pass_from(
         beat,
         outs.len(),
         numbers,
         dials,
-        ins,
-        outs.as_slice(),
         nodes,
         lives,
         journals,
@@ -105,71 +103,6 @@ fn pass_senders<M: Message, T: Node<M>, W: Named<T>, R: Wait>(
             outputs,
         )?;
         end_turn(rt, beat, &mut outs[n], mail)?;
-    }
-    Ok(())
-}
-
-// The turns of the members from a place on, which have no out-ports. Those that are idle are passed over.
-fn pass_others<M: Message, T: Node<M>, W: Named<T>>(
-    beat: Beat,
-    first: usize,
-    numbers: &[NodeNo],
-    dials: &[Dial],
-    ins: &[InPort<M>],
-    outs: &[Sequence<OutPort<M>>],
-    nodes: &mut Vec<T>,
-    lives: &mut Vec<Life>,
-    journals: &mut Vec<Journal>,
-    mail: &mut Mail<M>,
-    outputs: &mut Outbox<M>,
-) -> Result<(), NoMemory>
-    requires early { beat ≤ most_beats }
-    requires closed { AreClosedTo beat ins.now }
-    requires rows { length outs.now ≡ first }
-    requires outputs { outputs.old ≡ [] }
-    requires work { IsAtWork M.note_of T.step T.stands_at W.course W.opening W.line
-        numbers.now dials.now mail.old.links beat first
-        (ring nodes.old.items lives.old.items journals.old.items mail.old.channels) ins.now outs.now }
-    ensures work { OnOk result (IsAtWork M.note_of T.step T.stands_at W.course W.opening W.line
-        numbers.now dials.now mail.new.links (beat + 1) 0
-        (ring nodes.new.items lives.new.items journals.new.items mail.new.channels) ins.now outs.now) }
-    ensures lived { OnOk result ((old : Ring M T)
-        → HaveLived M.note_of T.step dials.now beat first old
-        (ring nodes.old.items lives.old.items journals.old.items mail.old.channels)
-        → HaveLived M.note_of T.step dials.now beat (length numbers.now) old
-        (ring nodes.new.items lives.new.items journals.new.items mail.new.channels)) }
-    ensures outputs { OnOk result (outputs.new ≡ []) }
-{
-    let mut n = next_busy(
-        beat,
-        first,
-        numbers,
-        dials,
-        nodes.as_slice(),
-        lives.as_slice(),
-        mail,
-    );
-    while n < nodes.len() {
-        let stamp = dials[n].stamp(beat);
-        let number = number_at(numbers, n);
-        live(
-            stamp,
-            number,
-            &mut nodes[n],
-            &mut lives[n],
-            &mut journals[n],
-            mail,
-            outputs,
-        )?;
-        n = next_busy(
-            beat,
-            n + 1,
-            numbers,
-            dials,
-            nodes.as_slice(),
-            lives.as_slice(),
-            mail,
-        );
     }
     Ok(())
 }

@@ -196,16 +196,6 @@ pub unheard : {M S : Type 0} (note : M → Note) (step : S → Input M → Deed 
     → old ≡ happen note step (letter_events note step stamp (l ∷ []) old.past) old
 unheard note step stamp l old lost = rw lost refl
 
-pub heard-keeps : {M S : Type 0} (note : M → Note) (step : S → Input M → Deed M S) (stands : S → Params → ℕ → Type 0) (stamp : Stamp) (l : Letter M) (old new : Scene M S)
-    → is_taken old.past.life l.sent stamp.beat ≡ true
-    → KeepsReady note step stands stamp.beat (event_of step (Take stamp l.link l.msg) old.past ∷ []) old new
-    → KeepsReady note step stands stamp.beat (letter_events note step stamp (l ∷ []) old.past) old new
-heard-keeps note step stands stamp l old new yes_taken keeps = rw yes_taken keeps
-
-pub unheard-keeps : {M S : Type 0} (note : M → Note) (step : S → Input M → Deed M S) (stands : S → Params → ℕ → Type 0) (stamp : Stamp) (l : Letter M) (old : Scene M S)
-    → is_taken old.past.life l.sent stamp.beat ≡ false → KeepsReady note step stands stamp.beat (letter_events note step stamp (l ∷ []) old.past) old old
-unheard-keeps note step stands stamp l old lost = rw lost (λ p n r. (r, tt))
-
 -- in-links are links
 pub links-lead : (p : Params) (n k : ℕ) (ls : List LinkNo) → link_count (links_of p) ≡ k → AllByRecursion (λ l. IsInLink p n l.0) ls → AllByRecursion (IsLink k) ls
 links-lead p n k [] count h = tt

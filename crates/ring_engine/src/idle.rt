@@ -16,7 +16,7 @@ use tiger_base::{Beat, Message, NodeNo, Stamp};
 /// none. At each place stands the node of the number at that place.
 // Most nodes are idle in most beats. In a loop that calls nothing for them, all that is looked at
 // stays in registers.
-pub fn next_busy<M: Message, T: Node<M>>(
+pub(crate) fn next_busy<M: Message, T: Node<M>>(
     beat: Beat,
     from: usize,
     numbers: &[NodeNo],

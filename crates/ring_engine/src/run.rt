@@ -1,7 +1,6 @@
 //! A run of any nodes on one thread.
-ghost use Rattle.std.specs.Prelude.{◌≡◌, ◌+◌, ◌<◌, ◌≤◌, [], length, IfOk, OnOk, vec_len};
-ghost use Rattle.tiger_base.specs.Limits.{most_beats};
-ghost use Rattle.node_kit.specs.Courses.{IsCourse, setting_of};
+ghost use Rattle.std.specs.Prelude.{◌≡◌, ◌+◌, length, IfOk, vec_len};
+ghost use Rattle.node_kit.specs.Courses.{IsCourse};
 ghost use Rattle.node_kit.specs.Links.{links_of, viewers_of};
 ghost use Rattle.node_kit.specs.Life.{lifetime_of};
 ghost use Rattle.run_facts.specs.Carried.{AreCarried};
@@ -9,17 +8,15 @@ ghost use Rattle.run_facts.specs.Kept.{HaveKept};
 ghost use Rattle.run_facts.specs.Paced.{ArePaced};
 ghost use Rattle.run_facts.specs.Timed.{AreTimed};
 ghost use Rattle.ring_engine.specs.Runs.{EachHasEnded};
-ghost use Rattle.ring_engine.specs.Whole.{IsWholeRun, HaveTurns};
-ghost use Rattle.ring_engine.specs.Places.{ring, IsSound, AllHaveLived, numbered};
-ghost use Rattle.node_kit.specs.Rows.{AllStand, each_below};
+ghost use Rattle.ring_engine.specs.Whole.{IsWholeRun};
+ghost use Rattle.node_kit.specs.Rows.{AllStand};
 
-use crate::events::live;
-use crate::idle::{next_busy, number_at};
 use crate::mail::Mail;
 use crate::opening::{all_dials, all_lives, all_numbers, new_journals};
-use node_kit::{Course, Dial, Journal, Life, LinkTable, Node, Outbox, Ran};
+use crate::passing::pass_from;
+use node_kit::{Course, LinkTable, Node, Outbox, Ran};
 use std::alloc::Global;
-use tiger_base::{Beat, Message, NoMemory, NodeNo, Sequence};
+use tiger_base::{Message, NoMemory, Sequence};
 
 /// Runs the nodes of a course. In each beat each node, by number, takes what arrives in the beat, by
 /// link number and then in the link's order, and then ticks.
@@ -58,9 +55,9 @@ pub fn run_plain<M: Message, T: Node<M>>(
     // One room for outputs serves all events of the run.
     let mut outputs = Outbox::new(alloc);
     for beat in 0..course.beats {
-        run_beat(
-            course,
+        pass_from(
             beat,
+            0,
             numbers.as_slice(),
             dials.as_slice(),
             &mut nodes,
@@ -74,71 +71,4 @@ pub fn run_plain<M: Message, T: Node<M>>(
         journals: Sequence::new(journals),
         nodes,
     })
-}
-
-// In a function of its own the loop over all nodes keeps its numbers in registers.
-#[inline(never)]
-fn run_beat<M: Message, T: Node<M>>(
-    course: &Course,
-    beat: Beat,
-    numbers: &[NodeNo],
-    dials: &[Dial],
-    nodes: &mut Vec<T>,
-    lives: &mut Vec<Life>,
-    journals: &mut Vec<Journal>,
-    mail: &mut Mail<M>,
-    outputs: &mut Outbox<M>,
-) -> Result<(), NoMemory>
-    requires course { IsCourse course.now }
-    requires early { beat ≤ most_beats }
-    requires outputs { outputs.old ≡ [] }
-    requires links { mail.old.links ≡ links_of course.now.plan.params }
-    requires count { vec_len nodes.old ≡ viewers_of mail.old.links + 1 }
-    requires numbers { numbers.now ≡ each_below numbered (vec_len nodes.old) }
-    requires dials { dials.now ≡ each_below (setting_of course.now) (vec_len nodes.old) }
-    requires sound { IsSound T.stands_at course.now.plan.params (vec_len nodes.old) beat
-        (ring nodes.old.items lives.old.items journals.old.items mail.old.channels) }
-    ensures sound { OnOk result (IsSound T.stands_at course.now.plan.params (vec_len nodes.old) beat
-        (ring nodes.new.items lives.new.items journals.new.items mail.new.channels)) }
-    ensures turns { OnOk result (HaveTurns M.note_of T.step course.now beat (vec_len nodes.old)
-        (ring nodes.old.items lives.old.items journals.old.items mail.old.channels)
-        (ring nodes.new.items lives.new.items journals.new.items mail.new.channels)) }
-    ensures lived { OnOk result (AllHaveLived M.note_of T.step course.now beat
-        (ring nodes.old.items lives.old.items journals.old.items mail.old.channels)
-        (ring nodes.new.items lives.new.items journals.new.items mail.new.channels)) }
-    ensures links { OnOk result (mail.new.links ≡ mail.old.links) }
-    ensures outputs { OnOk result (outputs.new ≡ []) }
-{
-    let mut n = next_busy(
-        beat,
-        0,
-        numbers,
-        dials,
-        nodes.as_slice(),
-        lives.as_slice(),
-        mail,
-    );
-    while n < nodes.len() {
-        let stamp = dials[n].stamp(beat);
-        let number = number_at(numbers, n);
-        live(
-            stamp,
-            number,
-            &mut nodes[n],
-            &mut lives[n],
-            &mut journals[n],
-            mail,
-            outputs,
-        )?;
-        n = next_busy(
-            beat,
-            n + 1,
-            numbers,
-            dials,
-            nodes.as_slice(),
-            lives.as_slice(),
-            mail,
-        );
-    }
-    Ok(())
 }

@@ -1,7 +1,6 @@
 -- Lists that are walked through, one element after another.
-use Rattle.std.proofs.Common.{◌≡◌, ℕ, ◌+◌, List, [], ◌∷◌, ◌++◌, length, map, Option, Some, SomeIff, refl, ap, sym, ◌∙◌, subst, arith, append-nil, append_assoc, length-append}
+use Rattle.std.proofs.Common.{◌≡◌, ℕ, ◌+◌, List, [], ◌∷◌, ◌++◌, length, Option, Some, SomeIff, refl, ap, sym, ◌∙◌, subst, arith, append-nil, append_assoc, length-append}
 use Rattle.std.specs.Prelude.{slice_get}
-use Rattle.std.proofs.lemmas.List.{map-append}
 
 -- the next element is behind those that are done
 next-here : {A : Type 0} (done : List A) (x : A) (rest : List A) → slice_get (done ++ x ∷ rest) (length done) ≡ Some x
@@ -23,14 +22,6 @@ none-left (x ∷ xs) e = absurd (omega (arith, e))
 -- all are done if none is left
 pub all-done : {A : Type 0} (all done rest : List A) → done ++ rest ≡ all → length rest ≡ 0 → done ≡ all
 all-done all done rest whole none = sym (append-nil done) ∙ ap (λ l. done ++ l) (sym (none-left rest none)) ∙ whole
-
--- what is made of each
-pub mapped-on : {A B : Type 0} (f : A → B) (done : List A) (x : A) (ys ys' : List B) → ys ≡ map f done → ys' ≡ ys ++ f x ∷ [] → ys' ≡ map f (done ++ x ∷ [])
-mapped-on f done x ys ys' h e = e ∙ ap (λ l. l ++ f x ∷ []) h ∙ sym (map-append f done (x ∷ []))
-
--- and what each was made of
-pub made-on : {A B : Type 0} (f : A → B) (xs xs' : List A) (x : A) (done : List B) (y : B) → map f xs ≡ done → xs' ≡ xs ++ x ∷ [] → f x ≡ y → map f xs' ≡ done ++ y ∷ []
-made-on f xs xs' x done y h e same = ap (map f) e ∙ map-append f xs (x ∷ []) ∙ ap (λ l. l ++ f x ∷ []) h ∙ ap (λ z. done ++ z ∷ []) same
 
 -- a counter of those that are done goes up
 pub place-on : {A : Type 0} (o : Option ℕ) (place place' : ℕ) (P : Type 0) (done : List A) (x : A) → SomeIff o P (place + 1) → o ≡ Some place' → place ≡ length done

@@ -15,8 +15,11 @@ const MOST_SPINS: u32 = 20;
 /// After this many, it sleeps for a while behind each.
 const MOST_AWAKE: u32 = 1000;
 
-/// For how long a worker sleeps, in microseconds.
+/// How long its first sleep is, in microseconds. The second one is twice as long, the third three times, and so on.
 const NAP: u64 = 50;
+
+/// How many times as long as the first one a sleep is at most.
+const LONGEST_NAP: u64 = 20;
 
 /// The place of the share at which a worker begins its rounds, if there are so many of both.
 pub(crate) fn first_of(worker: usize, workers: usize, shares: usize) -> usize {
@@ -85,7 +88,11 @@ fn visit<M: Message, T: Node<M>, W: Named<T>, R: Wait>(
 fn pause<R: Wait>(rt: &R, bed: &Parker, idle: u32) -> u32 {
     if idle >= MOST_AWAKE {
         // Nobody wakes it: no wake-up can be lost.
-        bed.park_timeout(rt, Duration::from_micros(NAP));
+        let naps = idle.saturating_sub(MOST_AWAKE).saturating_add(1) as u64;
+        bed.park_timeout(
+            rt,
+            Duration::from_micros(NAP.saturating_mul(naps.min(LONGEST_NAP))),
+        );
     } else if idle >= MOST_SPINS {
         thread::yield_now();
     } else {

@@ -6,7 +6,7 @@ use Rattle.ring_cells.specs.Cells.{IsAtWork}
 use Rattle.ring_cells.specs.Moves.{HaveLived}
 use Rattle.ring_engine.proofs.Running.{length-set_at}
 use Rattle.ring_cells.proofs.Passing.{sender-turn}
-use Rattle.ring_cells.proofs.Keeping.{dials-size, work-inside}
+use Rattle.ring_cells.proofs.Keeping.{dials-size, work-at-hand}
 use Rattle.ring_cells.proofs.Wired.{row-open, row-wired, live-size}
 use Rattle.ring_cells.proofs.Working.{lived-none, work-ready}
 use Rattle.ring_cells.proofs.turns.pass_senders.Goals as goal
@@ -31,7 +31,7 @@ number_at-number-requires g c =
     low
 
 pub live-requires-clause-number : goal.live-requires-clause-number
-live-requires-clause-number g c = work-inside g.M.Message.note_of g.T.Node.step g.T.Node.stands_at g.W.Named.course g.W.Named.opening g.W.Named.line c.args.numbers.now c.args.dials.now c.loop-n.mail.links c.args.beat c.loop-n.n _ _ _ c.number_at-number.result c.loop-n.invariant.work (sym c.number_at-number.ensures)
+live-requires-clause-number g c = (work-at-hand g.M.Message.note_of g.T.Node.step g.T.Node.stands_at g.W.Named.course g.W.Named.opening g.W.Named.line c.args.numbers.now c.args.dials.now c.loop-n.mail.links c.args.beat c.loop-n.n _ _ _ c.loop-n.invariant.work).inside c.loop-n.n c.number_at-number.result (sym c.number_at-number.ensures)
 
 pub live-requires-clause-ready : goal.live-requires-clause-ready
 live-requires-clause-ready g c =

@@ -1,9 +1,11 @@
-use Rattle.std.proofs.Common.{◌∙◌, ◌+◌, ap, sym, arith}
+use Rattle.std.proofs.Common.{◌∙◌, ◌+◌, refl, ap, sym, arith}
 use Rattle.node_kit.specs.Links.{link_count, viewers_of}
-use Rattle.ring_engine.specs.Places.{new_channel}
+use Rattle.node_kit.specs.Courses.{setting_of}
+use Rattle.ring_engine.specs.Places.{new_channel, numbered}
 use Rattle.run_facts.specs.Rings.{Ring}
 use Rattle.node_kit.specs.Rows.{each_below}
 use Rattle.node_kit.specs.Life.{lifetime_of}
+use Rattle.ring_engine.proofs.Reaching.{sound-at-hand, all-turns, all-lived}
 use Rattle.ring_engine.proofs.Running.{come-open, sound-open, come-more, sound-later, ended-at, ring-opens, passed-on, whole-run}
 use Rattle.ring_engine.proofs.Wholes.{kept-whole, carried-whole, paced-whole, timed-whole}
 use Rattle.ring_engine.proofs.run.run_plain.Goals as goal
@@ -21,21 +23,25 @@ loop-beat-init g c =
       outputs = c.new-outputs.ensures;
     }
 
-pub run_beat-requires-clause-links : goal.run_beat-requires-clause-links
-run_beat-requires-clause-links g c = c.loop-beat.invariant.links ∙ c.requires.links
-
-pub run_beat-requires-clause-count : goal.run_beat-requires-clause-count
-run_beat-requires-clause-count g c =
-    c.loop-beat.nodes.ok.0 ∙ c.loop-beat.invariant.sound.nodes ∙ c.requires.count ∙ ap (λ t. viewers_of t + 1) (sym c.loop-beat.invariant.links)
+pub pass_from-requires-clause-ready : goal.pass_from-requires-clause-ready
+pass_from-requires-clause-ready g c =
+    let sound = c.loop-beat.invariant.sound in
+    sound-at-hand g.T.Node.stands_at c.args.course.now _ c.loop-beat.beat _ _ c.loop-beat.mail.links
+    (record { nodes = c.loop-beat.nodes.items; lives = c.loop-beat.lives.items; journals = c.loop-beat.journals.items; channels = c.loop-beat.mail.channels })
+    (c.loop-beat.invariant.links ∙ c.requires.links) (c.requires.count ∙ ap (λ t. viewers_of t + 1) (sym c.loop-beat.invariant.links)) (c.as_slice.ensures.value ∙ c.in_ok-numbers.ensures ∙ ap (each_below numbered) (sym c.requires.count)) (c.as_slice-in-loop-beat.ensures.value ∙ c.in_ok-dials.ensures ∙ ap (each_below (setting_of c.args.course.now)) (sym c.requires.count)) sound
 
 pub loop-beat-preserved : goal.loop-beat-preserved
-loop-beat-preserved g c = record {
-  sound = sound-later _ _ _ _ _ _ (c.loop-beat.nodes.ok.0 ∙ c.loop-beat.invariant.sound.nodes) c.in_ok-run_beat.ensures.sound;
-  passed = passed-on _ _ _ _ _ _ _ _ _ (c.loop-beat.nodes.ok.0 ∙ c.loop-beat.invariant.sound.nodes) c.in_ok-run_beat.ensures.turns c.loop-beat.invariant.passed;
-  come = come-more _ _ _ _ _ _ _ c.in_ok-run_beat.ensures.lived c.loop-beat.invariant.come;
-  links = c.in_ok-run_beat.ensures.links ∙ c.loop-beat.invariant.links;
-  outputs = c.in_ok-run_beat.ensures.outputs;
-}
+loop-beat-preserved g c =
+    let inv = c.loop-beat.invariant in
+    let come = all-turns g.M.Message.note_of g.T.Node.step g.T.Node.stands_at c.args.course.now _ c.loop-beat.beat _ _ c.loop-beat.mail.links _ _
+    (inv.links ∙ c.requires.links) (c.as_slice.ensures.value ∙ c.in_ok-numbers.ensures ∙ ap (each_below numbered) (sym c.requires.count)) (c.as_slice-in-loop-beat.ensures.value ∙ c.in_ok-dials.ensures ∙ ap (each_below (setting_of c.args.course.now)) (sym c.requires.count)) inv.sound c.in_ok-pass_from.ensures.turns in
+    record {
+      sound = sound-later _ _ _ _ _ _ refl come.midway.sound;
+      passed = passed-on _ _ _ _ _ _ _ _ _ refl come.turns inv.passed;
+      come = come-more _ _ _ _ _ _ _ (all-lived _ _ _ _ _ _ _ _ inv.sound.nodes come) inv.come;
+      links = c.in_ok-pass_from.ensures.links ∙ inv.links;
+      outputs = c.in_ok-pass_from.ensures.outputs;
+    }
 
 pub returns-clause-runs : goal.returns-clause-runs
 returns-clause-runs g c =
