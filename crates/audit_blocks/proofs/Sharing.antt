@@ -202,12 +202,6 @@ excused_share k share.Piece t asked settled count all stopped counted h =
 excused_share k share.Dead t asked settled count all stopped counted h =
     of_others k share.Dead t asked settled count (λ n. refl) h counted
 
--- a tenancy that ends before it begins has no visit
-pub no_share : (k : Kept) (s : Share) (t : Tenancy) (behind : ℕ) → behind ≡ t.last + 1 → behind < t.first → 0 ≡ share_of_put k s t
-no_share k s t behind is short =
-    let none : 0 ≡ t.last + 1 - t.first = omega (arith, is, short) in
-    ap (λ (n : ℕ). length (filter (is_in_share k s t) (filter (is_settled_at k t) (range_with_len t.first n)))) none
-
 -- ---- the shares of a log
 
 pub one_entry_more : (k : Kept) (s : Share) (lines : List Line) (i : ℕ) (x : Line) → i < length lines

@@ -22,4 +22,5 @@ mod times;
 mod unserved;
 
 pub use shares::{Shares, shares_of};
-pub use unserved::first_unserved;
+pub use tables::Tables;
+pub use unserved::{first_unserved, tables_of};

@@ -9,10 +9,8 @@ use crate::excused::{is_unserved_back, lost_in_death, lost_in_pieces, was_stoppe
 use crate::lookups::block_failed;
 use crate::serving::is_settled_at;
 use crate::tables::Tables;
-use crate::unserved::tables_of;
 use audit_frame::{Line, line_at};
 use node_kit::{Kept, What};
-use std::alloc::Global;
 use tiger_base::{NoMemory, Tenancy, Visit};
 
 /// Which of the settled visits are counted.
@@ -41,20 +39,19 @@ pub struct Shares {
     pub stopped: u64,
 }
 
-/// How many each share has of a log. Each entry of the journals costs the logarithm of their number, and so does each visit of
-/// a Put up to the first that is not settled, or comes after the stop of its instance.
+/// How many each share has of a log. Each visit of a Put costs the logarithm of the number of entries, up to the first that is
+/// not settled, or comes after the stop of its instance.
 ///
-/// `NoMemory` is the only error.
-pub fn shares_of<'a>(alloc: Global, kept: &Kept, log: &[Line<'a>]) -> Result<Shares, NoMemory>
-    requires { length kept.now.journals ≤ 1000 }
+/// `NoMemory` is the only error: there are more visits than a number can count.
+pub fn shares_of<'a>(kept: &Kept, tables: &Tables, log: &[Line<'a>]) -> Result<Shares, NoMemory>
+    requires { AreTablesOf kept.now tables.now }
     ensures { IfOk result (AreSharesOf kept.now (told_by log.now)) }
 {
-    let tables = tables_of(alloc, kept)?;
-    let settled = share_of_log(kept, &tables, log, Share::All)?;
-    let read = share_of_log(kept, &tables, log, Share::Read)?;
-    let piece = share_of_log(kept, &tables, log, Share::Piece)?;
-    let dead = share_of_log(kept, &tables, log, Share::Dead)?;
-    let stopped = share_of_log(kept, &tables, log, Share::Stopped)?;
+    let settled = share_of_log(kept, tables, log, Share::All)?;
+    let read = share_of_log(kept, tables, log, Share::Read)?;
+    let piece = share_of_log(kept, tables, log, Share::Piece)?;
+    let dead = share_of_log(kept, tables, log, Share::Dead)?;
+    let stopped = share_of_log(kept, tables, log, Share::Stopped)?;
     Ok(Shares {
         settled,
         read,

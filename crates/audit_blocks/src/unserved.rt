@@ -1,6 +1,5 @@
 //! The first entry of the log of a kept run at which a viewer was not served, or got something else.
 ghost use Rattle.std.specs.Prelude.{◌≡◌, ◌↔◌, ◌≤◌, ◌&&◌, length, IsTrue, IfOk};
-ghost use Rattle.std.specs.List.{AllByRecursion};
 ghost use Rattle.run_model.specs.Runs.{order_in};
 ghost use Rattle.run_claims.specs.Served.{IsServedIfPut};
 ghost use Rattle.audit_frame.specs.Lines.{noted_line, told_by};
@@ -17,26 +16,9 @@ use node_kit::{Kept, What};
 use std::alloc::Global;
 use tiger_base::NoMemory;
 
-/// The first entry of the log of a kept run that puts a tenancy with a settled visit which is neither delivered nor
-/// excused, or by which the viewers get something that is of no visit of a tenancy that was put; `None` if there is none.
+/// The tables of what the journals of a kept run tell of blocks. Each entry costs the logarithm of their number.
 ///
-/// Each entry of the journals costs the logarithm of their number, and so does each visit of a Put up to the first that
-/// was not served, is not settled, or comes after the stop of its instance; an instance that is put again costs that for
-/// each of its tenancies. `NoMemory` is the only error.
-pub fn first_unserved<'a>(
-    alloc: Global,
-    kept: &Kept,
-    log: &[Line<'a>],
-) -> Result<Option<usize>, NoMemory>
-    requires few { length kept.now.journals ≤ 1000 }
-    requires told { told_by log.now ≡ order_in kept.now }
-    ensures { IfOk result (FindsFirst (IsServedIn kept.now) (told_by log.now)) }
-{
-    let tables = tables_of(alloc, kept)?;
-    Ok(first_false(kept, &tables, log))
-}
-
-/// The tables of what the journals tell.
+/// `NoMemory` is the only error.
 pub fn tables_of(alloc: Global, kept: &Kept) -> Result<Tables, NoMemory>
     requires { length kept.now.journals ≤ 1000 }
     ensures { IfOk result (λ tables. AreTablesOf kept.now tables) }
@@ -45,10 +27,14 @@ pub fn tables_of(alloc: Global, kept: &Kept) -> Result<Tables, NoMemory>
     Tables::of(alloc, &kept.course.plan, entries.as_slice())
 }
 
-/// The first entry that is not as it should be.
-fn first_false<'a>(kept: &Kept, tables: &Tables, log: &[Line<'a>]) -> Option<usize>
-    requires told { AreTablesOf kept.now tables.now }
-    requires put { AllByRecursion (IsPutHere kept.now) (told_by log.now) }
+/// The first entry of the log of a kept run that puts a tenancy with a settled visit which is neither delivered nor
+/// excused, or by which the viewers get something that is of no visit of a tenancy that was put; `None` if there is none.
+///
+/// Each visit of a Put costs the logarithm of the number of entries, up to the first that was not served, is not settled,
+/// or comes after the stop of its instance; an instance that is put again costs that for each of its tenancies.
+pub fn first_unserved<'a>(kept: &Kept, tables: &Tables, log: &[Line<'a>]) -> Option<usize>
+    requires tables { AreTablesOf kept.now tables.now }
+    requires told { told_by log.now ≡ order_in kept.now }
     ensures { FindsFirst (IsServedIn kept.now) (told_by log.now) result }
 {
     for i in 0..log.len() {

@@ -92,10 +92,6 @@ found_there {X} place f n (suc m) (row ∷ rows) is =
 from_none : (k m : ℕ) → k ≡ m → k ≡ 0 + m
 from_none k m e = omega (arith, e)
 
--- the numbers of a record are those of its row
-under_is : (w : By) (c : ℕ) (q : Rec) → (held_by w c q).under ≡ number_by w q
-under_is w c q = refl
-
 pub has_in_row : (w : By) (c : ℕ) (q : Rec) (rows : List (List Held))
     → has_held w c q (on_shelf rows) ≡ has_held w c q (get_or rows (row_for (number_by w q)) [])
 has_in_row w c q rows =

@@ -6,13 +6,11 @@ use Rattle.std.proofs.lemmas.Bool.{cases_eq}
 use Rattle.std.proofs.lemmas.List.{take_all}
 use Rattle.std.proofs.lemmas.List.Folds.{list_any-append}
 use Rattle.std.proofs.lemmas.Option.{slice_get-get_or, slice_get_within}
-use Rattle.slot_plan.specs.declared.params.Params.{Params}
 use Rattle.node_kit.specs.declared.course.Kept.{Kept}
-use Rattle.node_kit.specs.declared.course.Order.{Order}
 use Rattle.node_kit.specs.declared.journal.Entry.{Entry}
 use Rattle.node_kit.specs.Links.{links_of, controller_of}
 use Rattle.run_facts.specs.Commanded.{is_gone, StopsNone, IsCommanded}
-use Rattle.audit_orders.specs.Commanding.{IsGoneAt, IsForeignStop, IsForeignAt, OthersStopNone, AreSent, DecidesStops, DecidesController, DecidesCommanded, clock_of}
+use Rattle.audit_orders.specs.Commanding.{IsGoneAt, IsForeignStop, OthersStopNone, DecidesController, DecidesCommanded, clock_of}
 use Rattle.audit_orders.specs.declared.commanding.Uncommanded.{Uncommanded}
 use Rattle.audit_orders.specs.declared.commanding.Uncommanded.TheVariants as un
 use Rattle.audit_orders.proofs.Walks.{one_more}
@@ -76,25 +74,7 @@ other_says n controller journal (Some i) ne h = (ne, h)
 
 -- ---- the controller's journal
 
-pub stops_decide : (p : Params) (beats : ℕ) (reading : ℕ → ℕ) (orders : List Order) (journal : List Entry) (answer : Option Uncommanded)
-    → AreSent p beats orders journal → DecidesStops p beats reading orders journal answer
-    → DecidesController p beats reading orders journal answer
-stops_decide p beats reading orders journal None sent stopped = record { starts = sent; stops = stopped.stops; once = stopped.once }
-stops_decide p beats reading orders journal (Some (un.Stop i)) sent h = h
-stops_decide p beats reading orders journal (Some (un.Unstopped j)) sent h = h
-stops_decide p beats reading orders journal (Some (un.Foreign node i)) sent h = absurd h
-stops_decide p beats reading orders journal (Some (un.Start i)) sent h = absurd h
-stops_decide p beats reading orders journal (Some (un.Unsent j)) sent h = absurd h
-
 -- ---- and all
-
-pub foreign_decides : (k : Kept) (controller : ℕ) (found : Uncommanded) → controller ≡ controller_of (links_of k.course.plan.params)
-    → IsForeignAt controller k.journals found → DecidesCommanded k (Some found)
-foreign_decides k controller (un.Foreign node i) is h = subst (λ (n : ℕ). IsForeignStop n k.journals node.0 i) is h
-foreign_decides k controller (un.Start i) is h = absurd h
-foreign_decides k controller (un.Unsent j) is h = absurd h
-foreign_decides k controller (un.Stop i) is h = absurd h
-foreign_decides k controller (un.Unstopped j) is h = absurd h
 
 pub controller_decides : (k : Kept) (controller : ℕ) (journal : List Entry) (answer : Option Uncommanded)
     → controller ≡ controller_of (links_of k.course.plan.params) → slice_get k.journals controller ≡ Some journal

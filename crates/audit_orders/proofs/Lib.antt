@@ -11,5 +11,6 @@ pub mod Following
 pub mod Denying
 pub mod Mailing
 pub mod Posting
+pub mod Streaming
 pub mod Delivering
 pub mod Refuting

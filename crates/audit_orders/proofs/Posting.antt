@@ -49,7 +49,7 @@ suc_zero : (n : ℕ) → (suc n == 0) ≡ false
 suc_zero n = ne_eqb (suc n) 0 (λ e. omega (arith, e))
 
 -- an element more of a list
-slice_more : (xs : List (Dated Note)) (x : Dated Note) (n : ℕ)
+pub slice_more : {X : Type 0} (xs : List X) (x : X) (n : ℕ)
     → slice_get (xs ++ x ∷ []) n ≡ cond (length xs == n) (Some x) (slice_get xs n)
 slice_more [] x zero = refl
 slice_more [] x (suc n) = ap (λ (b : Bool). cond b (Some x) None) (sym (zero_suc n))

@@ -5,5 +5,6 @@ pub mod Commanding
 pub mod Starts
 pub mod Stops
 pub mod Carrying
+pub mod Streams
 pub mod Verdicts
 pub mod Samples

@@ -1,11 +1,13 @@
 //! What a walk over all journals keeps of the messages that were sent, and how many.
-ghost use Rattle.std.specs.Prelude.{◌≡◌, ℕ, ◌<◌, ◌==◌, ◌&&◌, [], Some, OnOk, get_or, length, slice_set, if◌then◌else◌};
+ghost use Rattle.std.specs.Prelude.{◌≡◌, ℕ, ◌<◌, ◌==◌, ◌&&◌, [], Some, OnOk, IsTrue, get_or, length, slice_get, slice_set, if◌then◌else◌};
+ghost use Rattle.std.specs.Option.{option_or};
 ghost use Rattle.audit_orders.specs.Carrying.{mail_under, count_under};
+ghost use Rattle.audit_orders.specs.Streams.{HasPosted, IsNext};
 
 use std::alloc::Global;
 use std::collections::BTreeMap;
 use std::marker::Model;
-use tiger_base::{Beat, NoMemory, Note};
+use tiger_base::{Beat, NoMemory, Note, Sequence};
 
 /// A message that was sent, and its beat.
 #[derive(Clone, Copy, Debug, PartialEq, Eq)]
@@ -18,15 +20,20 @@ pub(crate) struct Mail {
 /// of both.
 #[derive(Drop)]
 pub(crate) struct Post {
-    kept: BTreeMap<(u64, u64), Mail>,
+    // Those that were put in in turn, each behind the one before it: the row of each stream.
+    rows: Vec<Sequence<Mail>>,
+    // Those that were put in otherwise, of which there are hardly ever any.
+    late: BTreeMap<(u64, u64), Mail>,
 }
 
 impl Model for Post {
+    ghost use Rattle.std.specs.Prelude.{◌++◌};
     ghost use Rattle.audit_orders.specs.Carrying.{KeptMail};
+    ghost use Rattle.audit_orders.specs.Streams.{in_streams};
 
     ghost Value = { KeptMail };
 
-    ghost view = { λ s. s.kept.entries };
+    ghost view = { λ s. s.late.entries ++ in_streams 0 s.rows.items };
 }
 
 impl Post {
@@ -35,7 +42,8 @@ impl Post {
         ensures { result ≡ [] }
     {
         Post {
-            kept: BTreeMap::new(alloc),
+            rows: Vec::new(alloc),
+            late: BTreeMap::new(alloc),
         }
     }
 
@@ -43,7 +51,9 @@ impl Post {
     pub(crate) fn get(&self, stream: u64, place: u64) -> Option<Mail>
         ensures { result ≡ mail_under stream place self.now }
     {
-        self.kept.get(&(stream, place)).copied()
+        let late = late_mail(&self.late, stream, place);
+        let mail = mail_in(&self.rows, stream, place);
+        first_of(late, mail)
     }
 
     /// Puts a message at a place of a stream.
@@ -51,9 +61,93 @@ impl Post {
         ensures { OnOk result ((s n : ℕ) → mail_under s n self.new
             ≡ (if (stream == s) && (place == n) then Some mail else mail_under s n self.old)) }
     {
-        self.kept.insert((stream, place), mail)?;
+        if is_next(&self.rows, &self.late, stream, place) {
+            push_mail(&mut self.rows, stream, mail)?;
+            return Ok(());
+        }
+        self.late.insert((stream, place), mail)?;
         Ok(())
     }
+}
+
+/// The message at a place of a stream, of those that were put in late.
+fn late_mail(late: &BTreeMap<(u64, u64), Mail>, stream: u64, place: u64) -> Option<Mail>
+    ensures { result ≡ mail_under stream place late.now.entries }
+{
+    late.get(&(stream, place)).copied()
+}
+
+/// The message at a place of the row of a stream.
+fn mail_in(rows: &Vec<Sequence<Mail>>, stream: u64, place: u64) -> Option<Mail>
+    ensures { result ≡ slice_get (get_or rows.now.items stream []) place }
+{
+    match rows.get(stream as usize) {
+        Some(row) => row.get(place as usize).copied(),
+        None => None,
+    }
+}
+
+/// The first of two messages, or the second if there is no first.
+fn first_of(first: Option<Mail>, second: Option<Mail>) -> Option<Mail>
+    ensures { result ≡ option_or first second }
+{
+    match first {
+        Some(mail) => Some(mail),
+        None => second,
+    }
+}
+
+/// Whether a message at a place comes behind the last one of its stream, and none is late.
+fn is_next(
+    rows: &Vec<Sequence<Mail>>,
+    late: &BTreeMap<(u64, u64), Mail>,
+    stream: u64,
+    place: u64,
+) -> bool
+    ensures { IsTrue result → IsNext rows.now.items late.now.entries stream place }
+{
+    let none = late.is_empty();
+    let count = length_of(rows, stream);
+    none && count == place
+}
+
+/// How many messages the row of a stream has.
+fn length_of(rows: &Vec<Sequence<Mail>>, stream: u64) -> u64
+    ensures { result ≡ length (get_or rows.now.items stream []) }
+{
+    match rows.get(stream as usize) {
+        Some(row) => row.len() as u64,
+        None => 0,
+    }
+}
+
+/// Puts a message at the end of the row of a stream.
+fn push_mail(rows: &mut Vec<Sequence<Mail>>, stream: u64, mail: Mail) -> Result<(), NoMemory>
+    ensures { OnOk result (HasPosted stream mail rows.old.items rows.new.items) }
+{
+    make_row(rows, stream)?;
+    push_at(rows, stream, mail)?;
+    Ok(())
+}
+
+/// Makes the row of a stream, and those before it. The messages are as before.
+// The streams are of links that lead somewhere in the plan, so there are few.
+fn make_row(rows: &mut Vec<Sequence<Mail>>, stream: u64) -> Result<(), NoMemory>
+    ensures { OnOk result ((n : ℕ) → get_or rows.new.items n [] ≡ get_or rows.old.items n []) }
+{
+    let alloc = *rows.allocator();
+    while rows.len() as u64 <= stream {
+        rows.push(Sequence::new(Vec::new(alloc)))?;
+    }
+    Ok(())
+}
+
+/// Puts a message at the end of the row at a place.
+fn push_at(rows: &mut Vec<Sequence<Mail>>, place: u64, mail: Mail) -> Result<(), NoMemory>
+    ensures { OnOk result (HasPosted place mail rows.old.items rows.new.items) }
+{
+    let row = rows.get_mut(place as usize).ok_or(NoMemory)?;
+    row.push(mail)
 }
 
 /// A number for each stream, 0 if none was set, seen as the list of them.

@@ -28,15 +28,6 @@ in_range p a b c = record {
   hold = c.5;
 }
 
-pub sizes_of : (p : Params) → IsInRange p → SizesInRange p
-sizes_of p r = (r.cubs, r.disks, r.slots, r.play, r.pieces, r.block)
-
-pub windows_of : (p : Params) → IsInRange p → WindowsInRange p
-windows_of p r = (r.beat, r.delay, r.skew, r.window_a, r.window_b, r.read_lead)
-
-pub leads_of : (p : Params) → IsInRange p → LeadsInRange p
-leads_of p r = (r.min_lead, r.max_lead, r.batch, r.heart, r.deadman, r.hold)
-
 pub none_false : (p : Params) → IsPlan p → plan_fault p ≡ None
 unfolding plan_fault
 none_false p h =

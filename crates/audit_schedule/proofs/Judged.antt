@@ -1,5 +1,5 @@
 -- The tests of a Put are a test of the whole.
-use Rattle.std.proofs.Common.{◌≡◌, ℕ, ◌<◌, ◌≤◌, Bool, false, not, ◌&&◌, IsTrue, List, sym, subst, arith}
+use Rattle.std.proofs.Common.{◌≡◌, ℕ, ◌<◌, ◌≤◌, Bool, false, not, ◌&&◌, IsTrue, List, sym, subst}
 use Rattle.std.specs.Prelude.{◌↔◌}
 use Rattle.std.proofs.lemmas.Bool.{false≢true}
 use Rattle.tiger_base.specs.declared.tenancy.Tenancy.{Tenancy}
@@ -13,10 +13,6 @@ use Rattle.run_model.specs.Moments.{Moment}
 use Rattle.run_model.specs.Orders.{MayPut}
 use Rattle.run_model.proofs.Reflects.{and_both, and_left, and_right, negated}
 use Rattle.audit_schedule.specs.Fair.{IsAskedFor, PutIsFairSoFar, WhatIsFairSoFar}
-
-pub no_such_slot : (p : Params) (orders : List Order) (m : Moment) (c reading : ℕ) (t : Tenancy) → p.slots ≤ t.slot.0
-    → IsTrue false ↔ PutIsFairSoFar p orders m c reading t
-no_such_slot p orders m c reading t le = ((λ h. absurd (false≢true h)), (λ h. let slot = h.slot in absurd (omega (arith, le, slot))))
 
 pub fair_put : (p : Params) (orders : List Order) (m : Moment) (c reading : ℕ) (t : Tenancy) (free asked within may again : Bool)
     → IsTrue free ↔ IsFreeFrom m.schedule t.slot.0 t.first → IsTrue asked ↔ IsAskedFor p orders t → t.slot.0 < p.slots

@@ -5,6 +5,7 @@ pub mod Taken
 pub mod Stopping
 pub mod Dying
 pub mod Failing
+pub mod Rowed
 pub mod Saying
 pub mod Paired
 pub mod Turning

@@ -3,5 +3,6 @@ pub mod Puts
 pub mod Stops
 pub mod Beliefs
 pub mod Failures
+pub mod DiskRows
 pub mod Verdicts
 pub mod Turns

@@ -1,6 +1,5 @@
 //! Whether each read that is reported to have failed met a fault of its disk.
 ghost use Rattle.std.specs.Prelude.{◌≡◌, ◌↔◌, ◌||◌, ◌&&◌, ◌<◌, IsTrue, List, OnOk, IfOk};
-ghost use Rattle.std.specs.List.{list_any};
 ghost use Rattle.tiger_base.specs.declared.tenancy.Want.{Want};
 ghost use Rattle.slot_plan.specs.declared.params.Params.{Params};
 ghost use Rattle.node_kit.specs.declared.course.ReadFault.{ReadFault};
@@ -9,8 +8,9 @@ ghost use Rattle.run_claims.specs.Truths.{FailuresAreTrue, IsTrueFailure, disk_w
 ghost use Rattle.audit_frame.specs.First.{Decides};
 ghost use Rattle.audit_frame.specs.Lines.{noted_line, told_by};
 ghost use Rattle.audit_frame.specs.Wanted.{has_want};
-ghost use Rattle.audit_schedule.specs.Failures.{TellsAsks, asks_in_fault, note_in_fault, meets_fault, lasts_at};
+ghost use Rattle.audit_schedule.specs.Failures.{TellsAsks, asks_in_fault, note_in_fault, meets_fault};
 
+use crate::faults::Faults;
 use audit_frame::{Line, Wants, line_at};
 use node_kit::{ReadFault, What};
 use slot_plan::Plan;
@@ -19,13 +19,26 @@ use tiger_base::{Beat, NoMemory, NodeNo, Note, Want};
 
 /// The first entry of a log that reports a read as failed whose disk did not get the ask before, in a beat in which one of
 /// its faults lasts; `None` if there is none. Each entry costs the logarithm of the number of asks, and an ask that a disk
-/// gets costs a look at each fault besides.
+/// gets costs a look at each fault of the disk besides.
 ///
 /// `NoMemory` is the only error.
 pub fn first_false_failure<'a>(
     alloc: Global,
     plan: &Plan,
     faults: &[ReadFault],
+    log: &[Line<'a>],
+) -> Result<Option<usize>, NoMemory>
+    ensures { IfOk result (Decides (FailuresAreTrue plan.now.params faults.now) (told_by log.now)) }
+{
+    let by_disk = Faults::of(alloc, faults)?;
+    first_false(alloc, plan, &by_disk, log)
+}
+
+/// The same, once the faults stand by disk.
+fn first_false<'a, 'f>(
+    alloc: Global,
+    plan: &Plan,
+    faults: &Faults<'f>,
     log: &[Line<'a>],
 ) -> Result<Option<usize>, NoMemory>
     ensures { IfOk result (Decides (FailuresAreTrue plan.now.params faults.now) (told_by log.now)) }
@@ -53,9 +66,9 @@ fn is_true_failure<'a>(asks: &Wants, line: &Line<'a>) -> bool
 }
 
 /// Takes one more entry.
-fn take_got<'a>(
+fn take_got<'a, 'f>(
     plan: &Plan,
-    faults: &[ReadFault],
+    faults: &Faults<'f>,
     asks: &mut Wants,
     line: &Line<'a>,
 ) -> Result<(), NoMemory>
@@ -71,9 +84,9 @@ fn take_got<'a>(
 }
 
 /// Takes what a node got, if it is an ask that meets a fault of a disk.
-fn take_note(
+fn take_note<'f>(
     plan: &Plan,
-    faults: &[ReadFault],
+    faults: &Faults<'f>,
     asks: &mut Wants,
     node: NodeNo,
     beat: Beat,
@@ -89,9 +102,9 @@ fn take_note(
 }
 
 /// Takes an ask that a node got, if that is the disk which has what is wanted, and one of its faults lasts.
-fn take_ask(
+fn take_ask<'f>(
     plan: &Plan,
-    faults: &[ReadFault],
+    faults: &Faults<'f>,
     asks: &mut Wants,
     node: NodeNo,
     beat: Beat,
@@ -108,18 +121,11 @@ fn take_ask(
 }
 
 /// Whether a node is the disk that has what is wanted, and one of its faults lasts in a beat.
-fn meets_fault(plan: &Plan, faults: &[ReadFault], node: NodeNo, beat: Beat, want: &Want) -> bool
+fn meets_fault<'f>(plan: &Plan, faults: &Faults<'f>, node: NodeNo, beat: Beat, want: &Want) -> bool
     ensures { result ≡ meets_fault plan.now.params faults.now node.0 beat want.now }
 {
     let disk = disk_with(plan, want);
-    node.0 as u64 == plan.params.cubs + disk && has_fault(faults, disk, beat)
-}
-
-/// Whether a fault of a disk lasts in a beat.
-fn has_fault(faults: &[ReadFault], disk: u64, beat: Beat) -> bool
-    ensures { result ≡ list_any (lasts_at disk beat) faults.now }
-{
-    faults.iter().any(|f| f.disk.0 as u64 == disk && f.from <= beat && beat < f.until)
+    node.0 as u64 == plan.params.cubs + disk && faults.some_lasts(disk, beat)
 }
 
 /// The number of the disk that has what is wanted.

@@ -4,6 +4,7 @@
 mod asks;
 mod beliefs;
 mod failures;
+mod faults;
 pub mod laws;
 mod puts;
 pub mod rows;

@@ -6,6 +6,7 @@ use tiger_base::{
     Ask, DiskNo, FileNo, Instance, Kind, PieceState, Rec, SlotNo, Span, State, Tag, Tenancy, Want,
 };
 
+/// The number at a place; 0 if there is none.
 pub fn long_at(ns: &[u64], i: usize) -> u64
     ensures { result ≡ long_at ns.now i }
 {
@@ -15,12 +16,14 @@ pub fn long_at(ns: &[u64], i: usize) -> u64
     }
 }
 
+/// The low 32 bits of the number at a place; 0 if there is none.
 pub fn short_at(ns: &[u64], i: usize) -> u32
     ensures { result ≡ short_at ns.now i }
 {
     (long_at(ns, i) % 4294967296) as u32
 }
 
+/// The kind of a record: a cub's own if the number at the place is 0, and else a backup.
 pub fn kind_at(ns: &[u64], i: usize) -> Kind
     ensures { result ≡ kind_at ns.now i }
 {
@@ -31,6 +34,7 @@ pub fn kind_at(ns: &[u64], i: usize) -> Kind
     }
 }
 
+/// The tenancy of five numbers: the instance, the file, the slot, and the first and the last visit.
 pub fn tenancy_at(ns: &[u64], i: usize) -> Tenancy
     requires { i ≤ 100 }
     ensures { result ≡ tenancy_at ns.now i }
@@ -44,6 +48,7 @@ pub fn tenancy_at(ns: &[u64], i: usize) -> Tenancy
     }
 }
 
+/// The viewer state of six numbers: its tenancy's five, and the visit.
 pub fn state_at(ns: &[u64], i: usize) -> State
     requires { i ≤ 90 }
     ensures { result ≡ state_at ns.now i }
@@ -54,6 +59,7 @@ pub fn state_at(ns: &[u64], i: usize) -> State
     }
 }
 
+/// The mirror state of seven numbers: its tenancy's five, the visit, and the piece.
 pub fn piece_at(ns: &[u64], i: usize) -> PieceState
     requires { i ≤ 90 }
     ensures { result ≡ piece_at ns.now i }
@@ -65,6 +71,7 @@ pub fn piece_at(ns: &[u64], i: usize) -> PieceState
     }
 }
 
+/// The record of seven numbers: its tenancy's five, the visit, and the kind.
 pub fn record_at(ns: &[u64], i: usize) -> Rec
     requires { i ≤ 90 }
     ensures { result ≡ record_at ns.now i }
@@ -76,6 +83,7 @@ pub fn record_at(ns: &[u64], i: usize) -> Rec
     }
 }
 
+/// The request of four numbers: the instance, the file, how many blocks, and the first disk.
 pub fn ask_at(ns: &[u64], i: usize) -> Ask
     requires { i ≤ 100 }
     ensures { result ≡ ask_at ns.now i }
@@ -88,6 +96,7 @@ pub fn ask_at(ns: &[u64], i: usize) -> Ask
     }
 }
 
+/// What a disk is asked for, of six numbers: instance, slot, visit, file, block, and piece.
 pub fn want_at(ns: &[u64], i: usize) -> Want
     requires { i ≤ 100 }
     ensures { result ≡ want_at ns.now i }
@@ -102,6 +111,7 @@ pub fn want_at(ns: &[u64], i: usize) -> Want
     }
 }
 
+/// The span of three numbers: the file, the byte at which it begins, and its length in bytes.
 pub fn span_at(ns: &[u64], i: usize) -> Span
     requires { i ≤ 100 }
     ensures { result ≡ span_at ns.now i }
@@ -113,6 +123,7 @@ pub fn span_at(ns: &[u64], i: usize) -> Span
     }
 }
 
+/// The slot and the visit of a number that is not 0 and the two behind it; none if it is 0.
 pub fn tag_at(ns: &[u64], i: usize) -> Option<Tag>
     requires { i ≤ 100 }
     ensures { result ≡ tag_at ns.now i }
@@ -126,6 +137,7 @@ pub fn tag_at(ns: &[u64], i: usize) -> Option<Tag>
     })
 }
 
+/// The span of the three numbers behind one that is not 0; none if it is 0.
 pub fn part_at(ns: &[u64], i: usize) -> Option<Span>
     requires { i ≤ 90 }
     ensures { result ≡ part_at ns.now i }

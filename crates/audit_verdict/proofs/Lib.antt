@@ -5,5 +5,6 @@ pub mod Readings
 pub mod Decided
 pub mod Clauses
 pub mod Counted
+pub mod Judging
 pub mod Told
 pub mod Silent

@@ -4,15 +4,15 @@ ghost use Rattle.run_facts.specs.Commanded.{is_gone};
 ghost use Rattle.run_facts.specs.Order.{Noted};
 ghost use Rattle.run_facts.specs.Timed.{is_died};
 ghost use Rattle.node_kit.specs.Links.{links_of, viewers_of};
+ghost use Rattle.run_model.specs.Runs.{order_in};
+ghost use Rattle.audit_blocks.specs.Told.{AreTablesOf};
 ghost use Rattle.audit_frame.specs.Lines.{noted_line, told_by};
-ghost use Rattle.audit_read.specs.Writable.{IsWritable};
 ghost use Rattle.audit_verdict.specs.Counting.{AreCountsIn, AreCountsOf, gets_piece, gets_whole, is_any_put, is_viewed};
 
-use audit_blocks::{Shares, shares_of};
-use audit_frame::{Line, line_at, lines_of};
+use audit_blocks::{Shares, Tables, shares_of};
+use audit_frame::{Line, line_at};
 use node_kit::{Kept, LinkTable, What};
 use slot_plan::Plan;
-use std::alloc::Global;
 use tiger_base::{NoMemory, NodeNo, Note};
 
 /// How much there is in a kept run.
@@ -39,16 +39,19 @@ pub struct EntryCounts {
     pub pieces: u64,
 }
 
-/// What a kept run has of each.
+/// What a kept run has of each, by its tables of blocks and its log.
 ///
-/// `NoMemory` is the only error.
-pub fn counts_of(alloc: Global, kept: &Kept) -> Result<Counts, NoMemory>
-    requires { IsWritable kept.now }
+/// `NoMemory` is the only error: there are more visits than a number can count.
+pub(crate) fn counts_of<'a>(
+    kept: &Kept,
+    tables: &Tables,
+    log: &[Line<'a>],
+) -> Result<Counts, NoMemory>
+    requires tables { AreTablesOf kept.now tables.now }
+    requires told { told_by log.now ≡ order_in kept.now }
     ensures { IfOk result (AreCountsOf kept.now) }
 {
-    let lines = lines_of(alloc, kept)?;
-    let log = lines.as_slice();
-    let visits = shares_of(alloc, kept, log)?;
+    let visits = shares_of(kept, tables, log)?;
     let entries = counted(&kept.course.plan, log);
     Ok(Counts { entries, visits })
 }

@@ -1,6 +1,7 @@
 //! Where a viewer of a kept run was not served, and at which tick a start was passed over.
 ghost use Rattle.std.specs.Prelude.{◌≡◌, IfOk};
 ghost use Rattle.run_model.specs.Runs.{order_in};
+ghost use Rattle.audit_blocks.specs.Told.{AreTablesOf};
 ghost use Rattle.audit_frame.specs.Lines.{told_by};
 ghost use Rattle.audit_read.specs.Writable.{IsWritable};
 ghost use Rattle.audit_verdict.specs.Verdicts.{AnswersClause, MeetsBefore};
@@ -8,7 +9,7 @@ ghost use Rattle.audit_verdict.specs.declared.clause.Clause.TheVariants as claus
 
 use crate::logged::{logged, tick_in};
 use crate::place::Place;
-use audit_blocks::first_unserved;
+use audit_blocks::{Tables, first_unserved};
 use audit_frame::Line;
 use audit_waits::first_passed_over;
 use node_kit::Kept;
@@ -16,18 +17,13 @@ use std::alloc::Global;
 use tiger_base::NoMemory;
 
 /// The Put of a viewer who was not served, or what the viewers got besides.
-pub(crate) fn unserved<'a>(
-    alloc: Global,
-    kept: &Kept,
-    log: &[Line<'a>],
-) -> Result<Option<Place>, NoMemory>
-    requires writable { IsWritable kept.now }
+pub(crate) fn unserved<'a>(kept: &Kept, tables: &Tables, log: &[Line<'a>]) -> Option<Place>
     requires before { MeetsBefore kept.now clause.FullDelivery }
+    requires tables { AreTablesOf kept.now tables.now }
     requires told { told_by log.now ≡ order_in kept.now }
-    ensures { IfOk result (AnswersClause kept.now clause.FullDelivery) }
+    ensures { AnswersClause kept.now clause.FullDelivery result }
 {
-    let found = first_unserved(alloc, kept, log)?;
-    Ok(logged(log, found))
+    logged(log, first_unserved(kept, tables, log))
 }
 
 /// The tick at which a start is passed over.

@@ -6,6 +6,7 @@ mod clause;
 mod clocks;
 mod counts;
 mod ends;
+mod judgement;
 mod line;
 mod logged;
 mod orders;
@@ -16,7 +17,8 @@ mod verdict;
 
 pub use audit_blocks::Shares;
 pub use clause::Clause;
-pub use counts::{Counts, EntryCounts, counts_of};
+pub use counts::{Counts, EntryCounts};
+pub use judgement::{Judgement, judge};
 pub use line::line_in_text;
 pub use place::{EntryPlace, Place};
 pub use verdict::{Verdict, audit};

@@ -1,6 +1,7 @@
 //! The call over all walks.
 ghost use Rattle.std.specs.Prelude.{◌≡◌, IfOk};
 ghost use Rattle.run_model.specs.Runs.{order_in};
+ghost use Rattle.audit_blocks.specs.Told.{AreTablesOf};
 ghost use Rattle.audit_frame.specs.Lines.{told_by};
 ghost use Rattle.audit_read.specs.Writable.{IsWritable};
 ghost use Rattle.audit_verdict.specs.Verdicts.{AnswersClause, IsVerdictOn, MeetsBefore};
@@ -12,6 +13,7 @@ use crate::place::Place;
 use crate::schedule::{
     false_belief, false_failure, out_of_turn, returning, served_twice, stray, unfair_put,
 };
+use audit_blocks::{Tables, tables_of};
 use audit_frame::{Line, lines_of};
 use node_kit::Kept;
 use std::alloc::Global;
@@ -36,9 +38,25 @@ pub fn audit(alloc: Global, kept: &Kept) -> Result<Verdict, NoMemory>
 {
     let lines = lines_of(alloc, kept)?;
     let log = lines.as_slice();
+    let tables = tables_of(alloc, kept)?;
+    verdict_on(alloc, kept, &tables, log)
+}
+
+/// The same, by the tables of blocks and the log, which the counts of a run need too.
+pub(crate) fn verdict_on<'a>(
+    alloc: Global,
+    kept: &Kept,
+    tables: &Tables,
+    log: &[Line<'a>],
+) -> Result<Verdict, NoMemory>
+    requires writable { IsWritable kept.now }
+    requires tables { AreTablesOf kept.now tables.now }
+    requires told { told_by log.now ≡ order_in kept.now }
+    ensures { IfOk result (IsVerdictOn kept.now) }
+{
     for number in 1..13 {
         let clause = Clause::numbered(number);
-        let found = broken_at(alloc, kept, log, clause)?;
+        let found = broken_at(alloc, kept, tables, log, clause)?;
         if let Some(place) = found {
             return Ok(Verdict::No { clause, place });
         }
@@ -50,11 +68,13 @@ pub fn audit(alloc: Global, kept: &Kept) -> Result<Verdict, NoMemory>
 fn broken_at<'a>(
     alloc: Global,
     kept: &Kept,
+    tables: &Tables,
     log: &[Line<'a>],
     clause: Clause,
 ) -> Result<Option<Place>, NoMemory>
     requires writable { IsWritable kept.now }
     requires before { MeetsBefore kept.now clause }
+    requires tables { AreTablesOf kept.now tables.now }
     requires told { told_by log.now ≡ order_in kept.now }
     ensures { IfOk result (AnswersClause kept.now clause) }
 {
@@ -68,7 +88,7 @@ fn broken_at<'a>(
         Clause::OnePerVisit => served_twice(alloc, kept, log),
         Clause::TrueBelief => false_belief(alloc, kept, log),
         Clause::TrueFaults => false_failure(alloc, kept, log),
-        Clause::FullDelivery => unserved(alloc, kept, log),
+        Clause::FullDelivery => Ok(unserved(kept, tables, log)),
         Clause::VisitsInOrder => out_of_turn(alloc, kept, log),
         Clause::FairStarts => passed_over(alloc, kept, log),
     }

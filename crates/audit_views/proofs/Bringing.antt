@@ -195,9 +195,6 @@ record_judged p held brought m c reading q mine came soon r is own by early h =
 
 -- ---- an entry
 
-pub foreign_judged : (p : Params) (m : Moment) (x : Noted) → p.cubs ≤ x.node → IsTrue true ↔ IsLocal p m x
-foreign_judged p m x over = ((λ t low. absurd (omega (arith, over, low))), (λ h. refl))
-
 pub cub_judged : (p : Params) (m : Moment) (x : Noted) (w : What) (r : Bool) → x.entry.what ≡ w → x.node < p.cubs
     → IsTrue r ↔ IsLocalEntry p m x.node x.entry.stamp.reading w → IsTrue r ↔ IsLocal p m x
 cub_judged p m x w r is low judged = (

@@ -266,42 +266,8 @@ over_lets_none p how node i s over redundant disk v =
     (λ e. ap (λ (k : ℕ). has_number k s.over) (sym (eqb-true i v e)) ∙ over))
     ∙ or_false (has_pair disk v (waiting_in redundant s)))
 
--- of two ways the one is let in, if the instance is not over
-alone_bits : (e x t : Bool) → (e ≡ true → t ≡ false) → (e && x) ≡ ((e && x) && (true && not t))
-alone_bits false x t f = refl
-alone_bits true x false f = and_all x
-alone_bits true x true f = absurd (false≢true (sym (f refl)))
-
-no_way : (x t : Bool) → false ≡ (x && (false && not t))
-no_way true t = refl
-no_way false t = refl
-
 not_over : (s : Starts) (i v : ℕ) → has_number i s.over ≡ false → (i == v) ≡ true → has_number v s.over ≡ false
 not_over s i v over e = ap (λ (k : ℕ). has_number k s.over) (sym (eqb-true i v e)) ∙ over
-
-pub plain_let_in : (p : Params) (node i : ℕ) (old new : Starts) → has_number i old.over ≡ false → new.spare ≡ old.spare
-    → ((d n : ℕ) → has_pair d n new.plain ≡ (has_pair d n old.plain || ((i == n) && (has_pair n d old.disks && (node == cub_for p false d)))))
-    → HasLetIn p false node i old new
-plain_let_in p node i old new over same added false disk v =
-    added disk v ∙ ap (λ (b : Bool). has_pair disk v old.plain || b)
-    (alone_bits (i == v) (has_pair v disk old.disks && (node == cub_for p false disk)) (has_number v old.over) (not_over old i v over))
-plain_let_in p node i old new over same added true disk v =
-    ap (has_pair disk v) same
-    ∙ sym (or_false (has_pair disk v old.spare))
-    ∙ ap (λ (b : Bool). has_pair disk v old.spare || b)
-    (no_way ((i == v) && (has_pair v disk old.disks && (node == cub_for p true disk))) (has_number v old.over))
-
-pub spare_let_in : (p : Params) (node i : ℕ) (old new : Starts) → has_number i old.over ≡ false → new.plain ≡ old.plain
-    → ((d n : ℕ) → has_pair d n new.spare ≡ (has_pair d n old.spare || ((i == n) && (has_pair n d old.disks && (node == cub_for p true d)))))
-    → HasLetIn p true node i old new
-spare_let_in p node i old new over same added true disk v =
-    added disk v ∙ ap (λ (b : Bool). has_pair disk v old.spare || b)
-    (alone_bits (i == v) (has_pair v disk old.disks && (node == cub_for p true disk)) (has_number v old.over) (not_over old i v over))
-spare_let_in p node i old new over same added false disk v =
-    ap (has_pair disk v) same
-    ∙ sym (or_false (has_pair disk v old.plain))
-    ∙ ap (λ (b : Bool). has_pair disk v old.plain || b)
-    (no_way ((i == v) && (has_pair v disk old.disks && (node == cub_for p false disk))) (has_number v old.over))
 
 -- ---- an end
 

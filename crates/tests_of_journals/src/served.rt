@@ -1,7 +1,7 @@
 //! Small journals written by hand on a ring of eight cubs, and the first entry of their log by which a viewer was not served.
 
 use crate::by_hand::{catalogue, kept, sample_of};
-use audit_blocks::first_unserved;
+use audit_blocks::{first_unserved, tables_of};
 use audit_frame::lines_of;
 use node_kit::Kept;
 use std::alloc::Global;
@@ -14,7 +14,8 @@ fn answer(alloc: Global, k: &Kept) -> Result<Option<usize>, NoMemory> {
         return Err(NoMemory);
     }
     let log = lines_of(alloc, k)?;
-    first_unserved(alloc, k, log.as_slice())
+    let tables = tables_of(alloc, k)?;
+    Ok(first_unserved(k, &tables, log.as_slice()))
 }
 
 /// Whether it answers with a place in the log, or that all were served.

@@ -10,24 +10,11 @@ use Rattle.tiger_input.specs.Runnable.{NoReadFailed, NoPutFailed}
 use Rattle.tiger_input.specs.declared.status.Status.{Status}
 use Rattle.tiger_input.specs.declared.status.Status.TheVariants as statuses
 use Rattle.tiger_audit.proofs.Meets.{meets_clause}
-use Rattle.tiger_audit.specs.Ends.{IsKeptIn, OfYes, OfKeptRun, AuditCause, AuditSink, IsToldText, IsSoundText, IsJudged, UnreadCause, IsYesOf, JudgedCause, AnswerCause, AnswerSink}
-use Rattle.tiger_audit.specs.Statuses.{IsAuditRefusal}
+use Rattle.tiger_audit.specs.Ends.{IsKeptIn, OfYes, OfKeptRun, AuditCause, AuditSink, IsToldText, IsSoundText, IsJudged, IsYesOf, JudgedCause, AnswerCause, AnswerSink}
 use Rattle.tiger_audit.specs.declared.status.AuditStatus.{AuditStatus}
 use Rattle.tiger_audit.specs.declared.status.AuditStatus.TheVariants as ends
 
 -- ---- a run was judged
-
-pub refused_cause : (end : AuditStatus) (k : Kept) → JudgedCause k end → AnswerCause k end
-refused_cause (ends.Run statuses.Done) k cause = absurd cause
-refused_cause (ends.Run statuses.Words) k cause = cause
-refused_cause (ends.Run (statuses.Absent file)) k cause = cause
-refused_cause (ends.Run (statuses.ReadFault file)) k cause = cause
-refused_cause (ends.Run (statuses.Scenario fault)) k cause = cause
-refused_cause (ends.Run statuses.WriteFault) k cause = absurd cause
-refused_cause (ends.Run statuses.NoMemory) k cause = cause
-refused_cause (ends.Run (statuses.TooLong file given most)) k cause = cause
-refused_cause (ends.Journal line) k cause = cause
-refused_cause (ends.Audit c here line) k cause = cause
 
 pub refused_sink : (end : AuditStatus) (k : Kept) (out : SinkState) → JudgedCause k end → AnswerSink k out out end
 refused_sink (ends.Run statuses.Done) k out cause = absurd cause
@@ -40,16 +27,6 @@ refused_sink (ends.Run statuses.NoMemory) k out cause = inl refl
 refused_sink (ends.Run (statuses.TooLong file given most)) k out cause = absurd cause
 refused_sink (ends.Journal line) k out cause = absurd cause
 refused_sink (ends.Audit c here line) k out cause = refl
-
-pub said_cause : (status : Status) (k : Kept) (out new : SinkState) (text : List ℕ) → Wrote out new text status → AnswerCause k (ends.Run status)
-said_cause statuses.Done k out new text wrote = tt
-said_cause statuses.WriteFault k out new text wrote = tt
-said_cause statuses.NoMemory k out new text wrote = tt
-said_cause statuses.Words k out new text wrote = absurd wrote
-said_cause (statuses.Absent file) k out new text wrote = absurd wrote
-said_cause (statuses.ReadFault file) k out new text wrote = absurd wrote
-said_cause (statuses.Scenario fault) k out new text wrote = absurd wrote
-said_cause (statuses.TooLong file given most) k out new text wrote = absurd wrote
 
 -- what holds of the text holds of the lines that say so
 yes_of : (k : Kept) (text : List ℕ) (P : List ℕ → Type 0) → IsYesOf k text → P text → OfYes k P
@@ -67,42 +44,7 @@ said_sink (statuses.ReadFault file) k out new text says wrote = absurd wrote
 said_sink (statuses.Scenario fault) k out new text says wrote = absurd wrote
 said_sink (statuses.TooLong file given most) k out new text says wrote = absurd wrote
 
-pub said_no_refusal : (status : Status) (out new : SinkState) (text : List ℕ) → Wrote out new text status → IsAuditRefusal (ends.Run status) → ⊥
-said_no_refusal statuses.Done out new text wrote refusal = refusal
-said_no_refusal statuses.WriteFault out new text wrote refusal = refusal
-said_no_refusal statuses.NoMemory out new text wrote refusal = refusal
-said_no_refusal statuses.Words out new text wrote refusal = wrote
-said_no_refusal (statuses.Absent file) out new text wrote refusal = wrote
-said_no_refusal (statuses.ReadFault file) out new text wrote refusal = wrote
-said_no_refusal (statuses.Scenario fault) out new text wrote refusal = wrote
-said_no_refusal (statuses.TooLong file given most) out new text wrote refusal = wrote
-
 -- ---- no run was read
-
-pub read_cause : (end : AuditStatus) (name : List ℕ) (old new : FilesState) → UnreadCause name old new end → AuditCause name old new end
-read_cause (ends.Run statuses.Done) name old new cause = absurd cause
-read_cause (ends.Run statuses.Words) name old new cause = cause
-read_cause (ends.Run (statuses.Absent file)) name old new cause = cause
-read_cause (ends.Run (statuses.ReadFault file)) name old new cause = cause
-read_cause (ends.Run (statuses.Scenario fault)) name old new cause = cause
-read_cause (ends.Run statuses.WriteFault) name old new cause = absurd cause
-read_cause (ends.Run statuses.NoMemory) name old new cause = cause
-read_cause (ends.Run (statuses.TooLong file given most)) name old new cause = cause
-read_cause (ends.Journal line) name old new cause = cause
-read_cause (ends.Audit c here line) name old new cause = absurd cause
-
-pub read_sink : (end : AuditStatus) (name : List ℕ) (old new : FilesState) (out : SinkState) → UnreadCause name old new end
-    → AuditSink (old.told name) out out end
-read_sink (ends.Run statuses.Done) name old new out cause = absurd cause
-read_sink (ends.Run statuses.Words) name old new out cause = refl
-read_sink (ends.Run (statuses.Absent file)) name old new out cause = refl
-read_sink (ends.Run (statuses.ReadFault file)) name old new out cause = refl
-read_sink (ends.Run (statuses.Scenario fault)) name old new out cause = refl
-read_sink (ends.Run statuses.WriteFault) name old new out cause = absurd cause
-read_sink (ends.Run statuses.NoMemory) name old new out cause = inl refl
-read_sink (ends.Run (statuses.TooLong file given most)) name old new out cause = refl
-read_sink (ends.Journal line) name old new out cause = refl
-read_sink (ends.Audit c here line) name old new out cause = refl
 
 -- ---- the run that was read
 

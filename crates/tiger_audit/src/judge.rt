@@ -15,7 +15,7 @@ ghost use Rattle.tiger_audit.specs.declared.status.AuditStatus.TheVariants as en
 use crate::place::push_number;
 use crate::reading::read_run;
 use crate::status::AuditStatus;
-use audit_verdict::{Counts, EntryCounts, Shares, Verdict, audit, counts_of, line_in_text};
+use audit_verdict::{Counts, EntryCounts, Judgement, Shares, judge, line_in_text};
 use node_kit::Kept;
 use outside::{Files, Sink};
 use std::alloc::{AllocError, Global};
@@ -62,12 +62,9 @@ fn judged(alloc: Global, kept: &Kept) -> Result<String, AuditStatus>
     ensures yes { IfOk result (λ text. IsYesOf kept.now (string_bytes text)) }
     ensures cause { IfErr result (JudgedCause kept.now) }
 {
-    match audit(alloc, kept)? {
-        Verdict::Yes => {
-            let counts = counts_of(alloc, kept)?;
-            Ok(yes_text(alloc, &counts)?)
-        }
-        Verdict::No { clause, place } => {
+    match judge(alloc, kept)? {
+        Judgement::Yes(counts) => Ok(yes_text(alloc, &counts)?),
+        Judgement::No { clause, place } => {
             let line = line_in_text(kept, &place)?;
             Err(AuditStatus::Audit {
                 clause,
