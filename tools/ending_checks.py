@@ -112,6 +112,18 @@ def interrupted(folder):
         yield f"SIGINT to {words}", "" if good and not left else f"status {got.status}, '{got.err.decode()}', {left}"
 
 
+def taken_by_another(folder):
+    """SIGINT ends a tool also if another of its threads gets it while the main thread waits."""
+    text = ("import signal, threading, program\n"
+            "another = threading.Timer(0.2, signal.raise_signal, [signal.SIGINT])\n"
+            "program.finish(lambda: another.start() or threading.Event().wait(600))\n")
+    begun = time.monotonic()
+    got = program.run([sys.executable, "-c", text], folder, env={**os.environ, "PYTHONPATH": tool_checks.TOOLS},
+                      preexec_fn=heeds)
+    good = got.status == 130 and got.out + got.err == b"" and time.monotonic() - begun < 60
+    yield "SIGINT to another thread", "" if good else f"status {got.status}, '{got.err.decode()}'"
+
+
 def heeds():
     """Has a process heed SIGINT, also below `nohup` and in the background."""
     signal.signal(signal.SIGINT, signal.SIG_DFL)
@@ -223,6 +235,7 @@ def all_of_them(tiger, folder):
     yield from no_program(folder)
     yield from nothing_to_try(tiger, folder)
     yield from interrupted(folder)
+    yield from taken_by_another(folder)
     for number, check in enumerate((on_a_terminal, lambda at: first_words(tiger, at))):
         at = os.path.join(folder, f"launcher {number}")
         os.mkdir(at)

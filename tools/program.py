@@ -16,6 +16,7 @@ import signal
 import subprocess
 import sys
 import threading
+import time
 
 TOP = os.path.dirname(os.path.dirname(os.path.realpath(__file__)))
 LAUNCHER = os.path.join(TOP, "tiger")
@@ -23,6 +24,8 @@ BUILD = os.path.join(TOP, "tools", "build")
 PROGRAM = os.path.join(TOP, "crates", "tiger_main", "out", "tiger_main")
 CASES = os.path.join(TOP, "conformance")
 WAIT = 300  # seconds after which a run counts as hung, unless --wait gives others
+WAKE = 0.1  # seconds that the main thread has to take a signal, before it is sent again
+ENDING = (signal.SIGINT, signal.SIGTERM, signal.SIGHUP)  # the signals that end a tool
 
 NOBODY = 65534
 WRONG_WORD = 64
@@ -185,11 +188,31 @@ def status_of(tried, failed):
     return 128 + Interrupt.came if Interrupt.came else 1 if failed or not tried else 0
 
 
-def finish(main):
-    """Does a tool's work, and ends with its status."""
-    for number in (signal.SIGINT, signal.SIGTERM, signal.SIGHUP):
+def heed_signals():
+    """Has the signals that end a tool taken, and a signal that no thread wakes for sent again."""
+    for number in ENDING:
         if signal.getsignal(number) is not signal.SIG_IGN:
             signal.signal(number, Interrupt.handle)
+    told, tell = os.pipe()
+    os.set_blocking(tell, False)
+    signal.set_wakeup_fd(tell, warn_on_full_buffer=False)
+    threading.Thread(target=wake_main, args=(told,), daemon=True).start()
+
+
+def wake_main(told):
+    """Sends the main thread a signal that ends the tool until it is taken. Python only notes a signal: if the main thread
+    begins a wait just then, or if another thread gets it, the main thread waits on as if none had come."""
+    number = None
+    while number not in ENDING:  # (a tool may have others, as an alarm)
+        number = os.read(told, 1)[0]
+    while not Interrupt.came:
+        time.sleep(WAKE)
+        signal.pthread_kill(threading.main_thread().ident, number)
+
+
+def finish(main):
+    """Does a tool's work, and ends with its status."""
+    heed_signals()
     try:
         status = main()
         sys.stdout.flush()
