@@ -97,6 +97,43 @@ module _ (p : Params) (cub : ℕ) (v : Instance) (all : Pieces) (before : List (
         flat_done (kills_if_of p cub v) all.items before now (pieces_left all.params last all.items)
         (none_pass (pieces.is_behind all.params last) all.items (sym e)) h.outs
 
+-- ---- an instance of which no split visit is remembered
+
+not_killed : (p : Params) (cub : ℕ) (v : Instance) (x : PieceState) → pieces.is_of v x ≡ false → kills_if_of p cub v x ≡ []
+unfolding kills_if_of
+not_killed p cub v x e = rw e refl
+
+no_kills : (p : Params) (cub : ℕ) (v : Instance) (xs : List PieceState) → list_any (pieces.is_of v) xs ≡ false → flat_map (kills_if_of p cub v) xs ≡ []
+no_kills p cub v [] e = refl
+no_kills p cub v (x ∷ xs) e = by_test (pieces.is_of v x) refl e (λ f. no_kills p cub v xs f)
+  where
+    by_test : (t : Bool) → pieces.is_of v x ≡ t → (t || list_any (pieces.is_of v) xs) ≡ false
+        → (list_any (pieces.is_of v) xs ≡ false → flat_map (kills_if_of p cub v) xs ≡ []) → flat_map (kills_if_of p cub v) (x ∷ xs) ≡ []
+    by_test true is f rest = absurd (cc)
+    by_test false is f rest = ap (λ (os : List (Out Msg)). os ++ flat_map (kills_if_of p cub v) xs) (not_killed p cub v x is) ∙ rest f
+
+all_stay : (v : Instance) (xs : List PieceState) → list_any (pieces.is_of v) xs ≡ false → filter (λ x. not (pieces.is_of v x)) xs ≡ xs
+all_stay v [] e = refl
+all_stay v (x ∷ xs) e = by_test (pieces.is_of v x) refl e (λ f. all_stay v xs f)
+  where
+    by_test : (t : Bool) → pieces.is_of v x ≡ t → (t || list_any (pieces.is_of v) xs) ≡ false
+        → (list_any (pieces.is_of v) xs ≡ false → filter (λ y. not (pieces.is_of v y)) xs ≡ xs) → filter (λ y. not (pieces.is_of v y)) (x ∷ xs) ≡ x ∷ xs
+    by_test true is f rest = absurd (cc)
+    by_test false is f rest =
+        ap (λ (t : Bool). cond (not t) (x ∷ filter (λ y. not (pieces.is_of v y)) xs) (filter (λ y. not (pieces.is_of v y)) xs)) is
+        ∙ ap (λ (ys : List PieceState). x ∷ ys) (rest f)
+
+-- nothing is killed, and nothing forgotten
+pub none_killed : (p : Params) (cub : ℕ) (v : Instance) (ps : Pieces) (outs : List (Out Msg)) → list_any (pieces.is_of v) ps.items ≡ false → Did (killing_own p cub v ps) outs outs ps
+unfolding killing_own
+none_killed p cub v ps outs none = (
+  sym (append-nil outs) ∙ ap (λ (os : List (Out Msg)). outs ++ os) (sym (no_kills p cub v ps.items none)),
+  ap (λ (xs : List PieceState). with_items xs) (sym (all_stay v ps.items none)),
+)
+  where
+    with_items : List PieceState → Pieces
+    with_items xs = record ps { items = xs }
+
 -- ---- lines in their order
 
 line_none : (p : Params) (x : Line) → is_behind p None (key_of x) ≡ true

@@ -59,6 +59,10 @@ fn kill_splits<'a>(
         (killing_own site.now.plan.params site.now.cub.0 instance remembered.old)
         out.old out.new remembered.new) }
 {
+    // Mostly none is remembered, and then none is looked at.
+    if !remembered.has_of(instance) {
+        return Ok(());
+    }
     kill_each(site, instance, remembered, out)?;
     remembered.remove_instance(instance);
     Ok(())

@@ -2,13 +2,15 @@
 use Rattle.std.proofs.Common.{◌≡◌, ◌∙◌, ℕ, ◌<◌, ◌||◌, ◌&&◌, ◌==◌, nat_lt, nat_le, Bool, true, false, cond, List, [], ◌∷◌, length, drop, map, find, Option, Some, None, is_some, option_map, refl, ap, sym, subst, eq-eqb, arith}
 use Rattle.std.specs.declared.cmp.Ordering.{Ordering}
 use Rattle.std.specs.declared.cmp.Ordering.TheVariants.{Less, Equal, Greater}
+use Rattle.std.specs.declared.ops.Bound.TheVariants.{Included, Unbounded}
 use Rattle.std.specs.Prelude.{◌↔◌, IfNone, IfSome, IsSome, slice_get}
-use Rattle.std.specs.List.{AllByRecursion}
+use Rattle.std.specs.List.{AllByRecursion, filter}
+use Rattle.std.specs.BTreeMap.Range.{range_contains}
 use Rattle.std.specs.BTreeSet.{insert_key}
-use Rattle.std.specs.Ordering.{match_ordering, nat_cmp, ordering_then}
-use Rattle.std.proofs.lemmas.Bool.{eqb-true, le-ltb, lt-ltb, ltb-false, eqb-false}
+use Rattle.std.specs.Ordering.{is_le, match_ordering, nat_cmp, ordering_then}
+use Rattle.std.proofs.lemmas.Bool.{and_parts, both_ways, eqb-true, le-ltb, lt-ltb, ltb-false, eqb-false}
 use Rattle.tiger_base.specs.declared.tenancy.PieceState.{PieceState}
-use Rattle.mirror_schedule.specs.Agendas.{front_of, rank_cmp, timed_of}
+use Rattle.mirror_schedule.specs.Agendas.{front_of, rank_cmp, rank_of, timed_of}
 use Rattle.mirror_schedule.specs.Sorted.{but_first_if, first_if, is_less, with_one}
 use Rattle.mirror_schedule.specs.TimedPieces.{timed_before}
 use Rattle.mirror_schedule.specs.declared.agenda.Rank.{Rank}
@@ -66,6 +68,31 @@ find_mapped f test (x ∷ xs) =
       | true ↦ refl
       | false ↦ find_mapped f test xs
     ]
+
+-- what is found of some things is found of all, if only those pass
+found_within : {X : Type 0} (test part : X → Bool) → ((x : X) → test x ≡ true → part x ≡ true) → (xs : List X) → find test (filter part xs) ≡ find test xs
+found_within test part h [] = refl
+found_within {X} test part h (x ∷ xs) = at (test x) (part x) refl refl (found_within test part h xs)
+  where
+    at : (a b : Bool) → test x ≡ a → part x ≡ b → find test (filter part xs) ≡ find test xs → find test (cond b (x ∷ filter part xs) (filter part xs)) ≡ cond a (Some x) (find test xs)
+    at a true e f rest = ap (λ (t : Bool). cond t (Some x) (find test (filter part xs))) e ∙ ap (λ (o : Option X). cond a (Some x) o) rest
+    at false false e f rest = rest
+    at true false e f rest = absurd (both_ways (part x) f (h x e))
+
+-- what comes before a given piece is not behind it, so it need not be looked at
+from_given : (o : Ordering) (ahead behind : Bool) → Tells o ahead behind → ahead ≡ true → (is_le o && true) ≡ true
+from_given Less ahead behind h e = refl
+from_given Equal ahead behind h e = refl
+from_given Greater ahead behind h e = absurd (both_ways ahead h.0 e)
+
+pub found_behind : (x : PieceState × ℕ) (stand : Rank → Bool) (from : Rank) (all late : List Rank) → from ≡ rank_of x → late ≡ filter (range_contains rank_cmp (Included from) Unbounded) all
+    → find (λ r. timed_before x (timed_of r) && stand r) late ≡ find (λ r. timed_before x (timed_of r) && stand r) all
+found_behind x stand from all late e is =
+    ap (λ (rs : List Rank). find (λ r. timed_before x (timed_of r) && stand r) rs) is
+    ∙ found_within (λ r. timed_before x (timed_of r) && stand r) (range_contains rank_cmp (Included from) Unbounded)
+    (λ r both.
+    from_given (rank_cmp from r) (timed_before (timed_of from) (timed_of r)) (timed_before (timed_of r) (timed_of from)) (told from r)
+    (ap (λ (k : Rank). timed_before (timed_of k) (timed_of r)) e ∙ (and_parts (timed_before x (timed_of r)) (stand r) both).0)) all
 
 -- the first of some numbers
 pub first_mapped : (ks : List Rank) (k : Rank) → slice_get ks 0 ≡ Some k → Some (timed_of k) ≡ first_if (λ x. true) (map timed_of ks)

@@ -6,6 +6,7 @@ use Rattle.std.proofs.lemmas.Bool.{and_parts, cases_eq, eqb-true, false_from_ne_
 use Rattle.std.proofs.lemmas.Bool.Decides.{nat_tests}
 use Rattle.std.proofs.lemmas.List.{get_or_default, get_or_past}
 use Rattle.tiger_base.specs.Records.{same_want, want_of_piece}
+use Rattle.tiger_base.specs.declared.number.Instance.{Instance}
 use Rattle.tiger_base.specs.declared.tenancy.PieceState.{PieceState}
 use Rattle.tiger_base.specs.declared.tenancy.Want.{Want}
 use Rattle.mirror_schedule.specs.Choices.{covers, owner_of}
@@ -55,7 +56,7 @@ want_owner want x e =
     let instance = and_parts _ _ slot.0 in
     sym (eqb-true _ _ instance.0)
 
-untimed_any : (test : PieceState → Bool) (xs : List Pair) → list_any test (untimed xs) ≡ list_any (λ x. test x.0) xs
+pub untimed_any : (test : PieceState → Bool) (xs : List Pair) → list_any test (untimed xs) ≡ list_any (λ x. test x.0) xs
 untimed_any test [] = refl
 untimed_any test (x ∷ xs) = ap (λ b. test x.0 || b) (untimed_any test xs)
 
@@ -72,6 +73,13 @@ module _ (rows : List (List Pair)) (agenda : List Pair) (h : IsListing rows agen
       ∙ (ap (λ (ys : List Pair). list_any (λ y. test y.0) ys) (h.stand k)
       ∙ (any_within (λ y. test y.0) (of_row k) (λ y e. eq-eqb (row_of_piece y) k (ap row_of_instance (want_owner want y.0 e))) (pieces_standing rows agenda)
       ∙ sym (untimed_any test (pieces_standing rows agenda))))
+
+  -- and whether one is of an instance
+  pub owned : (v : Instance) → list_any (λ x. is_of v x.0) (piece_row rows (row_of_instance v.0)) ≡ list_any (λ x. is_of v x.0) (pieces_standing rows agenda)
+  owned v =
+      let k = row_of_instance v.0 in
+      ap (λ (ys : List Pair). list_any (λ y. is_of v y.0) ys) (h.stand k)
+      ∙ any_within (λ y. is_of v y.0) (of_row k) (λ y e. eq-eqb (row_of_piece y) k (ap row_of_instance (eqb-true _ _ e))) (pieces_standing rows agenda)
 
   -- what is wanted is taken out of one row
   module _ (w : Wanted) (now : List (List Pair)) (own : piece_row now (row_of_instance (owner_of w).0) ≡ filter (λ x. not (covers w x.0)) (piece_row rows (row_of_instance (owner_of w).0)))

@@ -5,7 +5,7 @@ ghost use Rattle.mirror_schedule.specs.Listings.{piece_stands};
 ghost use Rattle.mirror_schedule.specs.Sorted.{with_one, first_if, but_first_if};
 ghost use Rattle.mirror_schedule.specs.TimedPieces.{timed_before, timed_behind};
 
-use crate::order::{TimedPiece, is_behind};
+use crate::order::{TimedPiece, comes_before};
 use crate::row::Row;
 use crate::rows::is_standing;
 use std::alloc::Global;
@@ -119,7 +119,7 @@ impl Agenda {
         ensures { result
             ≡ find (λ x. timed_behind given x && piece_stands rows.now.items x) self.now }
     {
-        match next_standing(&self.ranks, rows, &given) {
+        match next_standing(&self.ranks, rows, given) {
             Some(rank) => Some(timed_of(&rank)),
             None => None,
         }
@@ -137,15 +137,34 @@ fn front_of(ranks: &BTreeSet<Rank>) -> Option<Micros>
 }
 
 /// The first of some numbers whose piece stands behind the given one, or of all if none is given.
-fn next_standing(
-    ranks: &BTreeSet<Rank>,
-    rows: &Vec<Row>,
-    given: &Option<TimedPiece>,
-) -> Option<Rank>
-    ensures { result ≡ find (λ r. timed_behind given.now (timed_of r)
+fn next_standing(ranks: &BTreeSet<Rank>, rows: &Vec<Row>, given: Option<TimedPiece>) -> Option<Rank>
+    ensures { result ≡ find (λ r. timed_behind given (timed_of r)
         && piece_stands rows.now.items (timed_of r)) ranks.now.keys }
 {
-    ranks.iter().find(|r| is_wanted(rows, given, r)).copied()
+    match given {
+        Some(x) => standing_behind(ranks, rows, &x),
+        None => first_standing(ranks, rows),
+    }
+}
+
+/// The first of some numbers whose piece stands.
+fn first_standing(ranks: &BTreeSet<Rank>, rows: &Vec<Row>) -> Option<Rank>
+    ensures { result ≡ find (λ r. piece_stands rows.now.items (timed_of r)) ranks.now.keys }
+{
+    ranks.iter().find(|r| stands(rows, r)).copied()
+}
+
+/// The first of some numbers whose piece stands behind a given one. None that come before it is
+/// looked at, so that a walk over all looks at each once.
+fn standing_behind(ranks: &BTreeSet<Rank>, rows: &Vec<Row>, x: &TimedPiece) -> Option<Rank>
+    ensures { result ≡ find (λ r. timed_before x.now (timed_of r)
+        && piece_stands rows.now.items (timed_of r)) ranks.now.keys }
+{
+    let from = rank_of(x);
+    ranks
+        .range(from..)
+        .find(|r| stands_behind(rows, x, r))
+        .copied()
 }
 
 /// The numbers of a piece.
@@ -185,11 +204,18 @@ fn timed_of(rank: &Rank) -> TimedPiece
     (piece, rank.time)
 }
 
-/// Whether the piece of some numbers stands and comes behind the given one, if one is given.
-fn is_wanted(rows: &Vec<Row>, given: &Option<TimedPiece>, rank: &Rank) -> bool
-    ensures { result ≡ (timed_behind given.now (timed_of rank.now)
+/// Whether the piece of some numbers stands.
+fn stands(rows: &Vec<Row>, rank: &Rank) -> bool
+    ensures { result ≡ piece_stands rows.now.items (timed_of rank.now) }
+{
+    is_standing(rows, &timed_of(rank))
+}
+
+/// Whether the piece of some numbers stands and comes behind a given one.
+fn stands_behind(rows: &Vec<Row>, x: &TimedPiece, rank: &Rank) -> bool
+    ensures { result ≡ (timed_before x.now (timed_of rank.now)
         && piece_stands rows.now.items (timed_of rank.now)) }
 {
-    let x = timed_of(rank);
-    is_behind(given, &x) && is_standing(rows, &x)
+    let y = timed_of(rank);
+    comes_before(x, &y) && is_standing(rows, &y)
 }

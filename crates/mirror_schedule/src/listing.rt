@@ -5,6 +5,7 @@ ghost use Rattle.std.specs.List.{list_any};
 ghost use Rattle.tiger_base.specs.Records.{same_want, want_of_piece};
 ghost use Rattle.mirror_schedule.specs.Choices.{covers};
 ghost use Rattle.mirror_schedule.specs.Listings.{IsListing, is_front_gone, pieces_standing};
+ghost use Rattle.mirror_schedule.specs.Pieces.{is_of};
 ghost use Rattle.mirror_schedule.specs.Sorted.{gap_from, with_one, first_if, but_first_if};
 ghost use Rattle.mirror_schedule.specs.Timed.{untimed};
 ghost use Rattle.mirror_schedule.specs.TimedPieces.{timed_before, timed_behind};
@@ -12,10 +13,10 @@ ghost use Rattle.mirror_schedule.specs.TimedPieces.{timed_before, timed_behind};
 use crate::agenda::Agenda;
 use crate::order::TimedPiece;
 use crate::row::{Row, Wanted};
-use crate::rows::{drop_first, enter, has_for, is_standing, place_for, strike_out};
+use crate::rows::{drop_first, enter, has_for, has_of, is_standing, place_for, strike_out};
 use std::alloc::Global;
 use std::marker::Model;
-use tiger_base::{Micros, NoMemory, Want};
+use tiger_base::{Instance, Micros, NoMemory, Want};
 
 /// Pieces beside the times at which they leave, seen as the list of them in their order.
 #[derive(Drop)]
@@ -95,6 +96,13 @@ impl Listing {
             ≡ list_any (λ x. same_want want.now (want_of_piece x)) (untimed self.now) }
     {
         has_for(&self.rows, want)
+    }
+
+    /// Whether one of the pieces is of an instance.
+    pub(crate) fn has_of(&self, instance: Instance) -> bool
+        ensures { result ≡ list_any (λ x. is_of instance x.0) self.now }
+    {
+        has_of(&self.rows, instance)
     }
 
     /// Removes what is wanted, and answers how many pieces that are.

@@ -1,7 +1,7 @@
 //! The order in which pieces are sent.
 ghost use Rattle.std.specs.Prelude.{◌≡◌, ◌≤◌, ◌^◌, length};
 ghost use Rattle.mirror_schedule.specs.Pieces.{IsPieceOf, leaving_of, listed};
-ghost use Rattle.mirror_schedule.specs.TimedPieces.{timed_rank, timed_before, timed_behind};
+ghost use Rattle.mirror_schedule.specs.TimedPieces.{timed_rank, timed_before};
 ghost use Rattle.mirror_schedule.specs.Sorted.{IsSorted, gap_from, place_of};
 
 use mirror_pieces::piece_due;
@@ -50,16 +50,6 @@ fn rank(x: &TimedPiece) -> Rank
         t.first,
         t.last,
     )
-}
-
-/// Whether a piece comes behind the given one, if one is given.
-pub(crate) fn is_behind(given: &Option<TimedPiece>, x: &TimedPiece) -> bool
-    ensures { result ≡ timed_behind given.now x.now }
-{
-    match given {
-        None => true,
-        Some(given) => comes_before(given, x),
-    }
 }
 
 /// The place of a new piece among some in their order; `None` if it is there.

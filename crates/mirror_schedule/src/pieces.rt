@@ -101,6 +101,13 @@ impl PieceView {
         self.items.has_for(want)
     }
 
+    /// Whether one of the pieces is of an instance.
+    pub fn has_of(&self, instance: Instance) -> bool
+        ensures { result ≡ list_any (is_of instance) self.now.items }
+    {
+        self.items.has_of(instance)
+    }
+
     /// Removes a piece; `false` exactly if it is not there.
     pub fn remove(&mut self, piece: PieceState) -> bool
         ensures found { result ≡ is_in piece self.old.items }

@@ -3,6 +3,7 @@ ghost use Rattle.std.specs.Prelude.{◌≡◌, ◌≤◌, [], length, not, filte
 ghost use Rattle.std.specs.List.{insert, list_any};
 ghost use Rattle.tiger_base.specs.Records.{same_want, want_of_piece};
 ghost use Rattle.mirror_schedule.specs.Choices.{covers, owner_of};
+ghost use Rattle.mirror_schedule.specs.Pieces.{is_of};
 ghost use Rattle.mirror_schedule.specs.Rows.{is_among, is_one};
 ghost use Rattle.mirror_schedule.specs.Sorted.{IsSorted, gap_from};
 ghost use Rattle.mirror_schedule.specs.Timed.{untimed};
@@ -84,6 +85,13 @@ impl Row {
             ≡ list_any (λ x. same_want want.now (want_of_piece x)) (untimed self.now) }
     {
         has_for(&self.items, want)
+    }
+
+    /// Whether one of the pieces is of an instance.
+    pub(crate) fn has_of(&self, instance: Instance) -> bool
+        ensures { result ≡ list_any (λ x. is_of instance x.0) self.now }
+    {
+        has_of(&self.items, instance)
     }
 }
 
@@ -178,6 +186,20 @@ fn asks_for(want: &Want, x: &PieceState) -> bool
         && want.file == t.file
         && want.block == x.visit.saturating_sub(t.first)
         && want.piece == x.piece
+}
+
+/// Whether one of some pieces is of an instance.
+fn has_of(items: &VecDeque<TimedPiece>, instance: Instance) -> bool
+    ensures { result ≡ list_any (λ x. is_of instance x.0) items.now.items }
+{
+    items.iter().any(|x| is_of(instance, x))
+}
+
+/// Whether a piece is of an instance.
+fn is_of(instance: Instance, x: &TimedPiece) -> bool
+    ensures { result ≡ is_of instance x.now.0 }
+{
+    x.0.tenancy.instance == instance
 }
 
 /// Removes what is wanted from some pieces, and answers how many that are.

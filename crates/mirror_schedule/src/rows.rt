@@ -4,6 +4,7 @@ ghost use Rattle.std.specs.List.{insert, list_any};
 ghost use Rattle.tiger_base.specs.Records.{same_want, want_of_piece};
 ghost use Rattle.mirror_schedule.specs.Choices.{covers, owner_of};
 ghost use Rattle.mirror_schedule.specs.Listings.{piece_row, piece_stands, row_of_instance, row_of_piece};
+ghost use Rattle.mirror_schedule.specs.Pieces.{is_of};
 ghost use Rattle.mirror_schedule.specs.Sorted.{IsSorted, gap_from};
 ghost use Rattle.mirror_schedule.specs.Timed.{untimed};
 ghost use Rattle.mirror_schedule.specs.TimedPieces.{timed_before};
@@ -45,6 +46,19 @@ pub(crate) fn has_for(rows: &Vec<Row>, want: &Want) -> bool
     let row = row_of(want.instance);
     if row < rows.len() {
         rows[row].has_for(want)
+    } else {
+        false
+    }
+}
+
+/// Whether one of the pieces in the row of an instance is of it.
+pub(crate) fn has_of(rows: &Vec<Row>, instance: Instance) -> bool
+    ensures { result ≡ list_any (λ x. is_of instance x.0)
+        (piece_row rows.now.items (row_of_instance instance.0)) }
+{
+    let row = row_of(instance);
+    if row < rows.len() {
+        rows[row].has_of(instance)
     } else {
         false
     }

@@ -10,6 +10,7 @@ pub mod Halving
 pub mod Laws
 pub mod Lefts
 pub mod Merged
+pub mod Nexts
 pub mod Order
 pub mod Pending
 pub mod Places

@@ -168,11 +168,23 @@ impl Bucket {
         let Some(key) = key else {
             return Some(*lines.get(0)?);
         };
-        let row = place_in(lines, self.lines.dues(), key, self.lines.due(key));
+        let row = self.row_behind(key, self.lines.due(key));
+        Some(*lines.get(row)?)
+    }
+
+    /// Behind how many lines the next one behind a visit stands, or would stand, whose due time is
+    /// at hand.
+    pub(crate) fn row_behind(&self, key: (SlotNo, Visit), due: Micros) -> usize
+        requires due { due ≡ due_of self.now.params key }
+        ensures { slice_get self.now.lines result
+            ≡ next_behind self.now.params (Some key) self.now.lines }
+    {
+        let lines = self.lines.lines();
+        let row = place_in(lines, self.lines.dues(), key, due);
         if row < lines.len() && lines[row].key() == key {
-            Some(*lines.get(row + 1)?)
+            row + 1
         } else {
-            Some(*lines.get(row)?)
+            row
         }
     }
 

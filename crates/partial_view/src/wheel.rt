@@ -152,7 +152,23 @@ impl Wheel {
         requires { ForSome key (IsKey self.now.params) }
         ensures { result ≡ next_behind self.now.params key self.now.lines }
     {
+        if let Some(last) = key {
+            if let Some(line) = self.next_in_turn(last) {
+                return Some(line);
+            }
+        }
         soonest_behind(&self.plan, self.buckets.as_slice(), key)
+    }
+
+    /// The next line behind a slot and visit, if it is due in the same turn.
+    fn next_in_turn(&self, key: (SlotNo, Visit)) -> Option<Line>
+        requires { IsKey self.now.params key }
+        ensures { IfSome result (λ line.
+            Some line ≡ next_behind self.now.params (Some key) self.now.lines) }
+    {
+        let due = self.plan.due(key.0, key.1);
+        let turn = self.recent.at(&self.plan, due);
+        next_in_turn(&self.plan, self.buckets.as_slice(), turn, key, due)
     }
 
     /// A time before which no line is due that is due at a given one or later: mostly when the
@@ -400,6 +416,32 @@ fn first_in_turn(
     let bucket = buckets.get(turn.bucket)?;
     let row = bucket.first_between(work, near.row, from, to.min(turn.last))?;
     Some(found_at(bucket, turn, row))
+}
+
+/// The next line behind a visit whose due time and turn are at hand, if it is due in the same turn:
+/// then it stands in the same bucket, so that a walk looks into one bucket for most lines.
+fn next_in_turn(
+    plan: &Plan,
+    buckets: &[Bucket],
+    turn: Turn,
+    key: (SlotNo, Visit),
+    due: Micros,
+) -> Option<Line>
+    requires wheel { IsWheel plan.now.params buckets.now }
+    requires due { due ≡ due_of plan.now.params key }
+    requires turn { IsTurnOf plan.now.params due turn }
+    ensures { let p = plan.now.params in IfSome result (λ line.
+        Some line ≡ next_behind p (Some key) (all_lines p buckets.now)) }
+{
+    let bucket = buckets.get(turn.bucket)?;
+    let row = bucket.row_behind(key, due);
+    if row < bucket.lines().len() {
+        let next = found_at(bucket, turn, row);
+        if next.due <= turn.last {
+            return Some(next.line);
+        }
+    }
+    None
 }
 
 /// The next line behind a slot and visit, or the first if none is given: the soonest one of all
