@@ -80,7 +80,7 @@ impl<'a> Cub<'a> {
         let done = hear(&self.site, stamp, link, msg, &mut self.store, out);
         // After an error nothing is known of the store; an empty one is a cub's.
         if done.is_err() {
-            self.store = Store::new(self.alloc, &self.site.plan, stamp.reading);
+            empty(self.alloc, &self.site, stamp.reading, &mut self.store);
         }
         done
     }
@@ -103,10 +103,21 @@ impl<'a> Cub<'a> {
         self.last = Some(stamp.beat);
         // After an error nothing is known of the store; an empty one is a cub's.
         if done.is_err() {
-            self.store = Store::new(self.alloc, &self.site.plan, stamp.reading);
+            empty(self.alloc, &self.site, stamp.reading, &mut self.store);
         }
         done
     }
+}
+
+/// Empties a store; the predecessor counts as heard at a reading.
+// It stands apart, since a whole store that is made in its callers would have room in the frame of each event.
+#[cold]
+#[inline(never)]
+fn empty<'a>(alloc: Global, site: &Site, heard: Micros, store: &mut Store<'a>)
+    requires { heard ≤ most_reading }
+    ensures { store.new ≡ opening_store site.now.plan.params heard }
+{
+    *store = Store::new(alloc, &site.plan, heard);
 }
 
 impl<'a> Node<Msg<'a>> for Cub<'a> {

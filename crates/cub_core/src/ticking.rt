@@ -45,6 +45,9 @@ fn was_away(last: Option<Beat>, beat: Beat) -> bool
 }
 
 /// A cub that comes back forgets all, writes it down, and tells its successor from when on it serves.
+// It stands apart, since a whole store that is made in its caller would have room in the frame of each tick.
+#[cold]
+#[inline(never)]
 fn come_back<'a>(
     alloc: Global,
     site: &Site,

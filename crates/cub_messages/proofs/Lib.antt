@@ -3,3 +3,4 @@ pub mod Dropping
 pub mod Killed
 pub mod Standing
 pub mod Visits
+pub mod Wants

@@ -37,14 +37,19 @@ pub fn take_answer<'a>(
     }
 }
 
-/// Whether a want is of a record, or a piece record, that is still there.
+/// Whether a want is of a record, or a piece record, that is still there. Piece 0 is a whole block's, for which no piece
+/// record stands, and no other piece is a record's.
 #[tactic(auto, unfolding(cub_rules::specs::Messages::is_wanted))]
 fn is_wanted(site: &Site, want: &Want, store: &Store) -> bool
     requires form { IsTrue (is_place site.now.plan.params want.now.slot.0 want.now.visit) }
     requires stored { IsStoreOf site.now.plan.params site.now.cub.0 store.now }
     ensures { result ≡ is_wanted want.now store.now }
 {
-    has_block(site, want, store.view.view()) || store.pieces.has_for(want)
+    if want.piece == 0 {
+        has_block(site, want, store.view.view())
+    } else {
+        store.pieces.has_for(want)
+    }
 }
 
 /// Whether a view has the own record of the block that is wanted.

@@ -15,9 +15,10 @@ ghost use Rattle.cub_messages.specs.Rules.{IsNear};
 
 use crate::passing::{pass_from, position_at};
 use crate::records::{drop_start, take_record};
-use cub_rules::{Comeback, Store, due_of, lets_in};
+use cub_rules::{Comeback, Store, lets_in};
 use node_kit::{Out, Outbox, Site};
 use partial_view::View;
+use slot_plan::Plan;
 use tiger_base::{Msg, NoMemory, Rec, SlotNo, Stamp, State, Visit};
 use viewer_state::state_for;
 
@@ -85,10 +86,9 @@ fn tells_place(site: &Site, state: State, place: (SlotNo, Visit), store: &Store)
         (due site.now.plan.params state.tenancy.slot.0 state.visit)
         && is_news state place store.now.view.lines) }
 {
-    lets_in(
-        store.comeback,
-        site.plan.due(state.tenancy.slot, state.visit),
-    ) && is_news(state, place, store.view.view())
+    let slot = state.tenancy.slot;
+    lets_visit_in(&site.plan, store.comeback, slot, state.visit)
+        && is_news(state, place, store.view.view())
 }
 
 /// The records are taken that a state tells a cub of, and that may enter.
@@ -134,10 +134,21 @@ fn let_in<'a>(
         out.old out.new store.new) }
     ensures params { OnOk result (store.new.view.params ≡ site.now.plan.params) }
 {
-    if lets_in(comeback, due_of(&site.plan, &rec)) {
+    if lets_visit_in(&site.plan, comeback, rec.tenancy.slot, rec.visit) {
         take_record(rec, store, out)?;
     }
     Ok(())
+}
+
+/// Whether the records of a visit may enter: its due time matters only to a cub that came back.
+fn lets_visit_in(plan: &Plan, comeback: Option<Comeback>, slot: SlotNo, visit: Visit) -> bool
+    requires { IsKey plan.now.params (slot, visit) }
+    ensures { result ≡ lets_in comeback (due plan.now.params slot.0 visit) }
+{
+    match comeback {
+        Some(_) => lets_in(comeback, plan.due(slot, visit)),
+        None => true,
+    }
 }
 
 /// Whether a state is the first that the next cub hears of its tenancy.

@@ -11,7 +11,8 @@ ghost use Rattle.cub_rules.specs.Ticks.{reading, ask_line, asked_block, ask_outs
 ghost use Rattle.cub_tick.specs.Limits.{asks};
 
 use crate::leaving::take_leaving;
-use cub_rules::{Comeback, Store, due_of, serves_at};
+use crate::serving::serves_record;
+use cub_rules::{Comeback, Store};
 use mirror_pieces::piece_disk;
 use mirror_schedule::PieceView;
 use node_kit::{Out, Outbox, Site};
@@ -103,7 +104,7 @@ fn ask_block<'a>(
     ensures { OnOk result (out.new
         ≡ out.old ++ asked_block site.now.plan.params comeback line.now) }
 {
-    if !serves_at(comeback, due_of(&site.plan, &line.rec)) {
+    if !serves_record(&site.plan, comeback, &line.rec) {
         return Ok(());
     }
     let disk = site.plan.disk_of(line.rec.visit);

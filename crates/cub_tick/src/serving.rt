@@ -5,7 +5,8 @@ ghost use Rattle.tiger_base.specs.Limits.{most_reading};
 ghost use Rattle.node_kit.specs.Deeds.{Did};
 ghost use Rattle.cub_rules.specs.State.{IsStoreOf, IsLineOf, IsPieceAt};
 ghost use Rattle.slot_plan.specs.Keys.{IsKey};
-ghost use Rattle.partial_view.specs.Lines.{key_of};
+ghost use Rattle.partial_view.specs.Lines.{key_of, visit_of};
+ghost use Rattle.cub_rules.specs.Comebacks.{due_of_record, serves_at};
 ghost use Rattle.cub_rules.specs.Records.{pieces_but, stored_for, dropped};
 ghost use Rattle.cub_rules.specs.Ticks.{serving, is_served, is_past, served_whole, serve_outs, sent_whole, piece_outs, leaves_by};
 
@@ -15,7 +16,7 @@ use mirror_schedule::PieceView;
 use node_kit::{Out, Outbox, Site, What};
 use partial_view::{CubView, Line};
 use slot_plan::Plan;
-use tiger_base::{Msg, NoMemory, PieceState, Stamp, Want};
+use tiger_base::{Msg, NoMemory, PieceState, Rec, Stamp, Want};
 
 /// Sends the block of each own record that is due, if its part is stored, and drops the record; then drops each backup
 /// record that is due; then sends each piece that leaves, if its part is stored, and drops the piece record. No record
@@ -86,10 +87,21 @@ fn serve_block<'a>(
         OnOk result (out.new ≡ out.old
         ++ served_whole p site.now.cub.0 stamp comeback parts.now line.now) }
 {
-    if !serves_at(comeback, due_of(&site.plan, &line.rec)) {
+    if !serves_record(&site.plan, comeback, &line.rec) {
         return Ok(());
     }
     send_whole(site, stamp, Want::of_block(&line.rec), parts, out)
+}
+
+/// Whether the own record of a visit is read, and its block sent: its due time matters only to a cub that came back.
+pub(crate) fn serves_record(plan: &Plan, comeback: Option<Comeback>, rec: &Rec) -> bool
+    requires { IsKey plan.now.params (visit_of rec.now) }
+    ensures { result ≡ serves_at comeback (due_of_record plan.now.params rec.now) }
+{
+    match comeback {
+        Some(_) => serves_at(comeback, due_of(plan, rec)),
+        None => true,
+    }
 }
 
 /// Sends a block to the viewers, if its part is stored.
