@@ -1,6 +1,6 @@
 -- What is let in and out through the ports of a share, link for link.
 use Rattle.std.proofs.Common.{◌≡◌, ℕ, zero, suc, ◌+◌, ◌<◌, ◌≤◌, List, [], ◌∷◌, ◌++◌, map, length, Bool, true, false, Option, Some, None, refl, ap, sym, ◌∙◌, subst, arith}
-use Rattle.std.specs.Prelude.{slice_get, slice_set, nat_le, drop, is_some, MatchOption}
+use Rattle.std.specs.Prelude.{slice_get, slice_set, nat_le, drop, is_some, IfSome, MatchOption}
 use Rattle.std.specs.List.{AllByRecursion}
 use Rattle.std.proofs.lemmas.Bool.{false≢true, leb-true, leb-false}
 use Rattle.std.proofs.lemmas.List.{length-map}
@@ -12,8 +12,8 @@ use Rattle.run_facts.specs.Rings.{Traffic}
 use Rattle.run_facts.proofs.Rows.{same-element}
 use Rattle.ring_engine.specs.Traffic.{flights_at, without_oldest, oldest_on, without_oldest_on}
 use Rattle.ring_engine.proofs.Channels.{get-changed_same}
-use Rattle.ring_cells.specs.Shares.{Entrance, Exit, AreApart, AreWired, links_in, links_out, IsClosedTo, AreClosedTo, FirstShort, AwaitedAt, HasPoured, HasGoneOut, sent_out}
-use Rattle.ring_cells.proofs.Pouring.{get-there, get-map, AreClosedBelow, closed-more, short-at}
+use Rattle.ring_cells.specs.Shares.{Entrance, Exit, AreApart, AreWired, links_in, links_out, IsClosedTo, AreClosedTo, AreClosedBelow, FirstShort, AwaitedAt, HasPoured, HasGoneOut, sent_out}
+use Rattle.ring_cells.proofs.Pouring.{get-there, get-map, closed-more, short-at}
 use Rattle.ring_cells.proofs.Ending.{IsGoingOut, going-more, going-all}
 
 -- a link of a row is one of the links
@@ -21,6 +21,11 @@ wired : (count : ℕ) (links : List LinkNo) (n : ℕ) (l : LinkNo) → AreWired 
 wired count [] n l all there = absurd (none-some l there)
 wired count (k ∷ ks) zero l all there = let same : k ≡ l = cc in subst (λ (x : LinkNo). x.0 < count) same all.0
 wired count (k ∷ ks) (suc n) l all there = wired count ks n l all.1 there
+
+-- what is known holds if there is some link
+pub some-from : {P : Type 0} (o : Option LinkNo) → P → IfSome o (λ l. P)
+some-from None p = tt
+some-from (Some l) p = p
 
 module _ {M : Type 0} where
   pub wired-at : (count : ℕ) (ins : List (Entrance M)) (n : ℕ) (i : Entrance M) → AreWired count (links_in ins) → slice_get ins n ≡ Some i → i.link.0 < count

@@ -1,6 +1,6 @@
 -- Beats that a share does one after another, and what its answer says of them.
 use Rattle.std.proofs.Common.{◌≡◌, ℕ, zero, suc, ◌+◌, ◌<◌, ◌≤◌, Bool, true, false, List, [], ◌∷◌, ◌++◌, length, Option, Some, None, refl, ap, sym, ◌∙◌, subst, arith, length-append, inl, inr}
-use Rattle.std.specs.Prelude.{slice_get, is_some, MatchOption, ◌==◌}
+use Rattle.std.specs.Prelude.{slice_get, is_some, IfSome, MatchOption, ◌==◌}
 use Rattle.std.proofs.lemmas.Bool.{false≢true, ne_eqb}
 use Rattle.tiger_base.specs.declared.number.LinkNo.{LinkNo}
 use Rattle.tiger_base.specs.declared.message.Note.{Note}
@@ -20,6 +20,10 @@ use Rattle.ring_cells.specs.Moves.{after_beats_by, HasGoneThrough, HaveLived, Di
 pub none-of : {A : Type 0} (P : Type 0) (Q : A → Type 0) (o : Option A) → is_some o ≡ false → MatchOption o P Q → P
 none-of P Q None e h = h
 none-of P Q (Some x) e h = absurd (false≢true (sym e))
+
+pub some-of : {A : Type 0} (P : Type 0) (o : Option A) → is_some o ≡ true → IfSome o (λ x. P) → P
+some-of P None e h = absurd (false≢true e)
+some-of P (Some x) e h = h
 
 module _ {M S : Type 0} where
   pub same-on : (c d e : Seen M S) → IsSameShare c d → IsSameShare d e → IsSameShare c e

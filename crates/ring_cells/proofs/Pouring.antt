@@ -17,7 +17,7 @@ use Rattle.ring_links.specs.Flights.{IsOrdered, AllFrom}
 use Rattle.ring_cells.specs.Flows.{HasReceived}
 use Rattle.ring_cells.proofs.Received.{received-none, received-more}
 use Rattle.ring_engine.specs.Traffic.{after_receiving, received_on}
-use Rattle.ring_cells.specs.Shares.{Entrance, inflow_of, links_in, AreApart, IsClosedTo, AreClosedTo, FirstShort, AwaitedAt, HasComeIn, HasPoured}
+use Rattle.ring_cells.specs.Shares.{Entrance, inflow_of, links_in, AreApart, IsClosedTo, AreClosedTo, AreClosedBelow, FirstShort, AwaitedAt, HasComeIn, HasPoured}
 
 -- what stands at a place, and what is made of it
 pub get-map : {A B : Type 0} (f : A → B) (xs : List A) (k : ℕ) (x : A) → slice_get xs k ≡ Some x → slice_get (map f xs) k ≡ Some (f x)
@@ -195,29 +195,29 @@ module _ {M : Type 0} where
       }
 
   -- the ports are waited for one after another
-  pub record AreClosedBelow (b n : ℕ) (ins : List (Entrance M)) : Type 0 where
-    pub each : (q : ℕ) (i : Entrance M) → q < n → slice_get ins q ≡ Some i → b ≤ i.closed
-
   pub closed-none : (b : ℕ) (ins : List (Entrance M)) → AreClosedBelow b 0 ins
-  closed-none b ins = record { each = λ q i low e. absurd (omega (arith, low)) }
+  closed-none b ins q i low e = absurd (omega (arith, low))
+
+  pub closed-still : (b n : ℕ) (o : Option LinkNo) (ins ins' : List (Entrance M)) → AwaitedAt b n o ins ins' → AreClosedBelow b n ins → AreClosedBelow b n ins'
+  closed-still b n o ins ins' h below q i low e =
+      let other : q ≢ n = λ same. absurd (omega (arith, same, low)) in
+      below q i low (sym (get-set_other ins n q h.now other) ∙ ap (λ is. slice_get is q) (sym h.changed) ∙ e)
 
   pub closed-more : (b n : ℕ) (ins ins' : List (Entrance M)) → AwaitedAt b n None ins ins' → AreClosedBelow b n ins → AreClosedBelow b (n + 1) ins'
-  closed-more b n ins ins' h below = record {
-    each = λ q i low e.
-        let e' : slice_get (slice_set ins n h.now) q ≡ Some i = ap (λ is. slice_get is q) (sym h.changed) ∙ e in
-        ⊎_elim
-        (λ (same : q ≡ n).
-        let is : h.now ≡ i = same-element (slice_set ins n h.now) n h.now i (get-set_same ins n h.now h.was h.stood) (ap (slice_get (slice_set ins n h.now)) (sym same) ∙ e') in
-        subst (λ (x : Entrance M). b ≤ x.closed) is h.met)
-        (λ (other : q ≢ n). below.each q i (omega (arith, low, other)) (sym (get-set_other ins n q h.now other) ∙ e'))
-        (cases_eq q n);
-  }
+  closed-more b n ins ins' h below q i low e =
+      let e' : slice_get (slice_set ins n h.now) q ≡ Some i = ap (λ is. slice_get is q) (sym h.changed) ∙ e in
+      ⊎_elim
+      (λ (same : q ≡ n).
+      let is : h.now ≡ i = same-element (slice_set ins n h.now) n h.now i (get-set_same ins n h.now h.was h.stood) (ap (slice_get (slice_set ins n h.now)) (sym same) ∙ e') in
+      subst (λ (x : Entrance M). b ≤ x.closed) is h.met)
+      (λ (other : q ≢ n). closed-still b n None ins ins' h below q i (omega (arith, low, other)) e)
+      (cases_eq q n)
 
   pub closed-all : (b n : ℕ) (ins : List (Entrance M)) → length ins ≤ n → AreClosedBelow b n ins → AreClosedTo b ins
-  closed-all b n ins long below q i e = let low = get-below ins q i e in below.each q i (omega (arith, low, long)) e
+  closed-all b n ins long below q i e = let low = get-below ins q i e in below q i (omega (arith, low, long)) e
 
   short-in : (b n : ℕ) (l : LinkNo) (ins : List (Entrance M)) (i : Entrance M) → slice_get ins n ≡ Some i → (i.closed < b) × (i.link ≡ l)
-      → ((q : ℕ) (j : Entrance M) → q < n → slice_get ins q ≡ Some j → b ≤ j.closed) → FirstShort b l ins
+      → AreClosedBelow b n ins → FirstShort b l ins
   short-in b n l [] i e short below = absurd (none-some i e)
   short-in b zero l (j ∷ js) i e short below = inl (subst (λ (x : Entrance M). (x.closed < b) × (x.link ≡ l)) (let same : i ≡ j = cc in same) short)
   short-in b (suc n) l (j ∷ js) i e short below = inr (below 0 j (omega arith) refl, short-in b n l js i e short (λ q k low g. below (suc q) k (omega (arith, low)) g))
@@ -226,7 +226,7 @@ module _ {M : Type 0} where
   short-at b n l ins ins' h below =
       let new = slice_set ins n h.now in
       subst (FirstShort b l) (sym h.changed) (short-in b n l new h.now (get-set_same ins n h.now h.was h.stood) h.met
-      (λ q j low e. below.each q j low (sym (get-set_other ins n q h.now (λ same. absurd (omega (arith, same, low)))) ∙ e)))
+      (λ q j low e. closed-still b n (Some l) ins ins' h below q j low (ap (λ is. slice_get is q) h.changed ∙ e)))
 
   -- a message may be sent as before
   pub open-poured : (b : ℕ) (channels channels' : List (Traffic M)) (ins ins' : List (Entrance M)) → HasPoured channels ins channels' ins' → AreOpen b channels → AreOpen b channels'

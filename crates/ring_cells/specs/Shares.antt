@@ -179,6 +179,10 @@ come_to numbers b q k = if holds_below numbers q k then b + 1 else b
 abbrev pub AreClosedTo : {M : Type 0} → ℕ → List (Entrance M) → Type 0
 AreClosedTo {M} b ins = (q : ℕ) (i : Entrance M) → slice_get ins q ≡ Some i → b ≤ i.closed
 
+-- the in-ports at the places below n are closed to a beat
+abbrev pub AreClosedBelow : {M : Type 0} → ℕ → ℕ → List (Entrance M) → Type 0
+AreClosedBelow {M} b n ins = (q : ℕ) (i : Entrance M) → q < n → slice_get ins q ≡ Some i → b ≤ i.closed
+
 -- all that comes in below a beat has come through a port, or not
 abbrev pub IsClosedTo : {M : Type 0} → ℕ → Entrance M → Type 0
 IsClosedTo b i = b ≤ i.closed

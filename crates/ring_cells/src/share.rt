@@ -40,6 +40,8 @@ pub struct Share<M: Message, T: Node<M>, W: Named<T>> {
     journals: Vec<Journal>,
     mail: Mail<M>,
     ins: Vec<InPort<M>>,
+    // The place of the in-port that is asked first: those before it are closed to the next beat.
+    awaited: usize,
     // The out-ports of the members at the first places, row by row.
     outs: Vec<Sequence<OutPort<M>>>,
     // Room for what a beat's events put out, empty between beats: it is asked for once, and not in each event.
@@ -51,6 +53,7 @@ impl<M: Message, T: Node<M>, W: Named<T>> Model for Share<M, T, W> {
     ghost use Rattle.std.specs.Prelude.{◌≡◌, ◌≤◌, false, []};
     ghost use Rattle.tiger_base.specs.Limits.{most_beats};
     ghost use Rattle.ring_cells.specs.Cells.{Seen, IsShareOf};
+    ghost use Rattle.ring_cells.specs.Shares.{AreClosedBelow};
 
     ghost Value = { Seen M T };
 
@@ -87,7 +90,8 @@ impl<M: Message, T: Node<M>, W: Named<T>> Model for Share<M, T, W> {
           ins = s.ins.items;
           outs = s.outs.items;
         }))
-        × (s.spoilt ≡ false → s.outputs ≡ []) };
+        × (s.spoilt ≡ false → s.outputs ≡ [])
+        × (s.spoilt ≡ false → AreClosedBelow s.next s.awaited s.ins.items) };
 }
 
 /// What a share holds, taken apart.
@@ -142,6 +146,7 @@ impl<M: Message, T: Node<M>, W: Named<T>> Share<M, T, W> {
             journals,
             mail,
             ins,
+            awaited: 0,
             outs,
             outputs: Outbox::new(alloc),
             of: PhantomData,
@@ -222,7 +227,7 @@ impl<M: Message, T: Node<M>, W: Named<T>> Share<M, T, W> {
     {
         self.spoilt = true;
         let beat = self.next;
-        let Ok(short) = await_all(rt, beat, &mut self.ins, &mut self.mail) else {
+        let Ok(short) = await_all(rt, beat, &mut self.awaited, &mut self.ins, &mut self.mail) else {
             return Err(NoMemory);
         };
         if short.is_some() {
@@ -245,6 +250,7 @@ impl<M: Message, T: Node<M>, W: Named<T>> Share<M, T, W> {
             return Err(NoMemory);
         };
         self.next = beat + 1;
+        self.awaited = 0;
         self.spoilt = false;
         Ok(None)
     }
@@ -273,6 +279,7 @@ impl<M: Message, T: Node<M>, W: Named<T>> Share<M, T, W> {
             journals,
             mail,
             ins,
+            awaited: _,
             outs,
             outputs: _outputs,
             of: _,

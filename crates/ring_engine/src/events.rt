@@ -150,6 +150,10 @@ fn take_link<M: Message, T: Node<M>>(
     ensures links { OnOk result (mail.new.links ≡ mail.old.links) }
     ensures outputs { OnOk result (outputs.new ≡ []) }
 {
+    // Nothing has arrived on most links of a node that something has come to.
+    if !mail.has_arrived(stamp.beat, link) {
+        return Ok(());
+    }
     while let Some(letter) = mail.next_letter(stamp.beat, link) {
         take_heard(stamp, letter, node, life, journal, mail, outputs)?;
     }

@@ -2,4 +2,3 @@ pub mod Flights
 pub mod Linked
 pub mod Marked
 pub mod Ends
-pub mod Passages

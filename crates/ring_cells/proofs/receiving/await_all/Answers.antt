@@ -1,13 +1,13 @@
 use Rattle.std.proofs.Common.{◌≡◌, refl, ap, sym, subst, ◌∙◌, arith, length}
 use Rattle.ring_cells.specs.Shares.{AreApart, AreWired}
-use Rattle.ring_cells.proofs.Letting.{ports-kept, wired-kept, awaited-short, awaited-none}
-use Rattle.ring_cells.proofs.Pouring.{poured-none, poured-on, closed-none, closed-more, closed-all}
+use Rattle.ring_cells.proofs.Letting.{ports-kept, wired-kept, awaited-short, awaited-none, some-from}
+use Rattle.ring_cells.proofs.Pouring.{poured-none, poured-on, closed-still, closed-all}
 use Rattle.ring_cells.proofs.receiving.await_all.Goals as goal
 
 pub loop-n-init : goal.loop-n-init
 loop-n-init g c = record {
   poured = poured-none c.args.mail.now.channels c.args.ins.now.items;
-  closed = closed-none c.args.beat c.args.ins.now.items;
+  closed = c.requires.below;
   links = refl;
   end = c.len-n-end.ensures ∙ c.args.ins.now.ok.0;
 }
@@ -31,6 +31,10 @@ returns-then-is_some-clause-poured g c = poured-on _ _ _ _ _ _ c.loop-n.invarian
 pub returns-then-is_some-clause-closed : goal.returns-then-is_some-clause-closed
 returns-then-is_some-clause-closed g c =
     awaited-short c.args.beat c.loop-n.n c.in_ok-short.short _ _ (sym c.is_some.ensures ∙ c.if-is_some.true) c.in_ok-short.ensures.awaited c.loop-n.invariant.closed
+
+pub returns-then-is_some-clause-below : goal.returns-then-is_some-clause-below
+returns-then-is_some-clause-below g c =
+    some-from c.in_ok-short.short (closed-still c.args.beat c.loop-n.n c.in_ok-short.short _ _ c.in_ok-short.ensures.awaited c.loop-n.invariant.closed)
 
 pub loop-n-preserved : goal.loop-n-preserved
 loop-n-preserved g c = record {

@@ -1,6 +1,5 @@
 use Rattle.std.proofs.Common.{◌≡◌, length}
-use Rattle.ring_cells.specs.Shares.{HasPoured}
-use Rattle.ring_cells.proofs.Pouring.{AreClosedBelow}
+use Rattle.ring_cells.specs.Shares.{HasPoured, AreClosedBelow}
 use Rattle.ring_cells.proofs.receiving.await_all.Given as goal
 
 -- the ports below one were waited for

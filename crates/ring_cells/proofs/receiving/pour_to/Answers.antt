@@ -12,8 +12,8 @@ returns-then-look_to-clause-poured g c =
     let e = c.look_to.ensures in
     poured-on _ _ _ _ _ _ c.flights.invariant.2 (poured-look _ _ _ e.link e.line e.flights e.rises)
 
-pub pour_one-requires : goal.pour_one-requires
-pour_one-requires g c =
+pub pour_counted-requires : goal.pour_counted-requires
+pour_counted-requires g c =
     let h = c.flights.invariant.2 in
     let same = link-kept _ _ _ _ h in
     let size = h.same_size in

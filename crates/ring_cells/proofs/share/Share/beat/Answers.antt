@@ -3,7 +3,8 @@ use Rattle.ring_cells.specs.Cells.{Seen}
 use Rattle.ring_cells.specs.Moves.{DidBeat}
 use Rattle.ring_cells.specs.Shares.{AreClosedTo, FirstShort}
 use Rattle.ring_cells.proofs.Keeping.{work-lent, work-poured, share-goes, beat-lived}
-use Rattle.ring_cells.proofs.Moving.{none-of}
+use Rattle.ring_cells.proofs.Moving.{none-of, some-of}
+use Rattle.ring_cells.proofs.Pouring.{closed-none}
 use Rattle.ring_cells.proofs.Wired.{ins-wired}
 use Rattle.ring_cells.proofs.share.Share.beat.Goals as goal
 
@@ -21,12 +22,17 @@ await_all-requires-clause-wired g c =
     let h = c.self.invariant.1 sound in
     ins-wired g.M.Message.note_of g.T.Node.step g.T.Node.stands_at W.course W.opening W.line _ _ _ _ _ _ _ _ h.work
 
+pub await_all-requires-clause-below : goal.await_all-requires-clause-below
+await_all-requires-clause-below g c =
+    let sound : c.self.inside.spoilt ≡ false = ap (λ (q : Seen _ _). q.spoilt) c.self.view_is ∙ c.requires.0 in
+    c.self.invariant.3 sound
+
 pub invariant_of-self-then-is_some : goal.invariant_of-self-then-is_some
 invariant_of-self-then-is_some g c =
     let W = g.W.Named in
     let sound : c.self.inside.spoilt ≡ false = ap (λ (q : Seen _ _). q.spoilt) c.self.view_is ∙ c.requires.0 in
     let h = c.self.invariant.1 sound in
-    (c.self.invariant.0, λ _. share-goes g.M.Message.note_of g.T.Node.step g.T.Node.stands_at W.course W.opening W.line W.home _ _ refl refl refl h.within (work-poured g.M.Message.note_of g.T.Node.step g.T.Node.stands_at W.course W.opening W.line _ _ _ _ _ _ _ _ _ _ _ _ _ c.in-Ok.ensures.links c.in-Ok.ensures.poured h.work) h, λ _. c.self.invariant.2 sound)
+    (c.self.invariant.0, λ _. share-goes g.M.Message.note_of g.T.Node.step g.T.Node.stands_at W.course W.opening W.line W.home _ _ refl refl refl h.within (work-poured g.M.Message.note_of g.T.Node.step g.T.Node.stands_at W.course W.opening W.line _ _ _ _ _ _ _ _ _ _ _ _ _ c.in-Ok.ensures.links c.in-Ok.ensures.poured h.work) h, λ _. c.self.invariant.2 sound, λ _. some-of _ c.in-Ok.short (sym c.is_some.ensures ∙ c.if-is_some.true) c.in-Ok.ensures.below)
 
 pub pass_beat-requires-clause-closed : goal.pass_beat-requires-clause-closed
 pass_beat-requires-clause-closed g c =
@@ -49,7 +55,7 @@ invariant_of-self-2 g c =
     let low : c.self.inside.next < c.self.inside.beats = subst (λ (q : Seen _ _). q.next < q.beats) (sym c.self.view_is) c.requires.1 in
     let work = work-lent g.M.Message.note_of g.T.Node.step g.T.Node.stands_at W.course W.opening W.line _ _ _ _ _ _ _ _ _ _ _ (sym c.as_slice.ensures.value) (sym c.as_slice-2.ensures.value) (sym c.as_slice-3.ensures.value)
     c.in-Ok-pass_beat.ensures.work in
-    (c.self.invariant.0, λ _. share-goes g.M.Message.note_of g.T.Node.step g.T.Node.stands_at W.course W.opening W.line W.home _ _ refl refl refl (omega (arith, low)) work h, λ _. c.in-Ok-pass_beat.ensures.outputs)
+    (c.self.invariant.0, λ _. share-goes g.M.Message.note_of g.T.Node.step g.T.Node.stands_at W.course W.opening W.line W.home _ _ refl refl refl (omega (arith, low)) work h, λ _. c.in-Ok-pass_beat.ensures.outputs, λ _. closed-none _ _)
 
 pub returns-clause-done : goal.returns-clause-done
 returns-clause-done g c =

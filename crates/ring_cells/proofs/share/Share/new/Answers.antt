@@ -6,6 +6,7 @@ use Rattle.node_kit.specs.Rows.{each_below}
 use Rattle.node_kit.specs.Links.{link_count}
 use Rattle.ring_engine.specs.Places.{new_channel}
 use Rattle.ring_cells.proofs.Keeping.{share-opens}
+use Rattle.ring_cells.proofs.Pouring.{closed-none}
 use Rattle.ring_cells.proofs.share.Share.new.Goals as goal
 
 pub invariant_of-result : goal.invariant_of-result
@@ -22,4 +23,5 @@ invariant_of-result g c =
           (c.in_ok-journals.ensures ∙ ap (each_below (λ _. _)) (c.len.ensures ∙ c.args.numbers.ok.0))
           (c.in_ok-mail.ensures.channels ∙ ap (λ t. each_below (new_channel course) (link_count t)) (sym c.in_ok-mail.ensures.links)) r.members r.given r.ins r.outs,
       λ _. c.new-2.ensures,
+      λ _. closed-none 0 c.args.ins.items,
     )
