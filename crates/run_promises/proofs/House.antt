@@ -1,13 +1,13 @@
 -- In a house that is never full, in which nothing fails, who presses play is served.
-use Rattle.std.proofs.Common.{◌≡◌, ◌≢◌, ℕ, ◌+◌, ◌*◌, ◌%◌, ◌<◌, ◌≤◌, Bool, true, false, not, List, [], ◌∷◌, length, filter, Option, Some, None, refl, sym, ap, subst, ◌∙◌, arith, ⊎_elim, inl}
+use Rattle.std.proofs.Common.{◌≡◌, ◌≢◌, ℕ, ◌+◌, ◌%◌, ◌<◌, ◌≤◌, Bool, true, false, not, List, [], ◌∷◌, length, filter, Option, Some, None, refl, sym, ap, subst, ◌∙◌, arith, ⊎_elim, inl}
 use Rattle.std.specs.Prelude.{◌==◌}
 use Rattle.std.specs.List.{AllByRecursion}
 use Rattle.std.proofs.lemmas.Bool.{cases_Bool, eq-eqb, ne_eqb, true≢false}
 use Rattle.std.proofs.lemmas.Nat.{mod_below}
 use Rattle.tiger_base.specs.declared.tenancy.Ask.{Ask}
 use Rattle.tiger_base.specs.declared.tenancy.Tenancy.{Tenancy}
-use Rattle.slot_plan.specs.Times.{due, cub_of, disk_of, disk_count, time_of}
-use Rattle.slot_plan.proofs.Times.{product_le, cub_below, due_add}
+use Rattle.slot_plan.specs.Times.{cub_of, disk_of, disk_count}
+use Rattle.slot_plan.proofs.Times.{product_le, cub_below}
 use Rattle.node_kit.specs.declared.course.Kept.{Kept}
 use Rattle.node_kit.specs.declared.course.Order.{Order}
 use Rattle.node_kit.specs.declared.course.OrderKind.{OrderKind}
@@ -17,16 +17,17 @@ use Rattle.run_facts.specs.Commanded.{stop_ordered}
 use Rattle.run_facts.specs.Order.{beat_of}
 use Rattle.run_model.specs.Orders.{IsOrdered, IsTenancyFor}
 use Rattle.run_model.specs.Runs.{order_in}
+use Rattle.run_model.specs.Served.{IsPut}
 use Rattle.lists.specs.Elements.{In}
 use Rattle.proof_moments.proofs.Lists.{any_by}
 use Rattle.lists.proofs.Elements.{in_filter}
 use Rattle.run_promises.specs.Kept.{IsKeptWell, after_tick, WasPut}
 use Rattle.run_promises.specs.Waits.{Wait, IsWaiting, IsATurn}
 use Rattle.run_promises.specs.Placing.{HasRoom}
-use Rattle.run_promises.specs.Served.{Came}
+use Rattle.run_promises.specs.Served.{IsSettledVisit, Came}
 use Rattle.run_promises.specs.House.{begun_by, begun, NothingFails, PressesPlay, IsNeverFull, WhoPressesPlayIsServed}
-use Rattle.run_promises.proofs.Fronts.{IsPutBy, holder_by_tick, stopped_by_tick}
-use Rattle.run_promises.proofs.Journals.{into_flat_map, put_in_order, put_in_journals, rightly_put}
+use Rattle.run_promises.proofs.Fronts.{holder_by_tick, stopped_by_tick}
+use Rattle.run_promises.proofs.Journals.{into_flat_map, put_in_order, rightly_put}
 use Rattle.run_promises.proofs.Starts.{was_ordered}
 use Rattle.run_promises.proofs.Stops.{stop_was_ordered}
 use Rattle.run_promises.proofs.Tried.{not_earlier}
@@ -130,20 +131,14 @@ is_waiting k ask ordered last play turn ends nothing =
 
 -- ---- the blocks
 
-block_comes : (k : Kept) (t : Tenancy) (n time : ℕ) → IsKeptWell k → IsPutBy (order_in k) t → NothingFails k
-    → ((b : ℕ) → stop_ordered k.orders t.instance.0 b ≡ false) → t.first + n ≤ t.last
-    → due k.course.plan.params t.slot.0 t.first ≤ time
-    → time + (n + 2) * k.course.plan.params.play ≤ time_of k.course.plan.params k.course.beats → Came k t (t.first + n)
-block_comes k t n time w q nothing unstopped within soon ends =
+block_comes : (k : Kept) (t : Tenancy) (visit : ℕ) → IsKeptWell k → IsPut k.journals t → NothingFails k
+    → ((b : ℕ) → stop_ordered k.orders t.instance.0 b ≡ false) → IsSettledVisit k t visit → Came k t visit
+block_comes k t visit w put nothing unstopped settled =
     let p = k.course.plan.params in
-    let is = due_add p t.slot.0 t.first n in
-    let first : t.first ≤ t.first + n = omega arith in
-    let settled : due p t.slot.0 (t.first + n) + 2 * p.play ≤ time_of p k.course.beats = omega arith in
-    what_nothing_hinders_comes k w t (t.first + n) (put_in_journals k t q)
-    (record { first = first; last = within; settled = settled })
+    what_nothing_hinders_comes k w t visit put settled
     (λ b o. absurd (true≢false (sym o ∙ unstopped b)))
-    (λ death d. absurd (death_of_none _ death (nothing.deaths (cub_of p (t.first + n)) (cub_below p (t.first + n) k.course.plan.sound.ranges)) d))
-    (subst (λ (fs : List ReadFault). AllByRecursion (λ (f : ReadFault). f.disk.0 ≢ disk_of p (t.first + n)) fs) (sym nothing.faults) tt)
+    (λ death d. absurd (death_of_none _ death (nothing.deaths (cub_of p visit) (cub_below p visit k.course.plan.sound.ranges)) d))
+    (subst (λ (fs : List ReadFault). AllByRecursion (λ (f : ReadFault). f.disk.0 ≢ disk_of p visit) fs) (sym nothing.faults) tt)
 
 pub who_presses_play_is_served : (k : Kept) → IsKeptWell k → WhoPressesPlayIsServed k
 who_presses_play_is_served k w ask ordered last wide play turn ends full nothing =
@@ -163,15 +158,14 @@ who_presses_play_is_served k w ask ordered last wide play turn ends full nothing
     let rightly = (rightly_put k t w q).1 in
     let same : rightly.ask ≡ ask = play.alone rightly.ask rightly.ordered (is_its rightly.ask t ask rightly.asked.instance place.1.instance) in
     let asked : IsTenancyFor p ask t = subst (λ (x : Ask). IsTenancyFor p x t) same rightly.asked in
-    let count = asked.count in
     record {
       tenancy = t;
       put = place.1.put;
       asked = asked;
+      in_time = put;
       soon = place.1.soon;
-      blocks = λ n low lasts. block_comes k t n _ w q nothing
-          (subst (λ (v : ℕ). (b : ℕ) → stop_ordered k.orders v b ≡ false) (sym place.1.instance) play.unstopped)
-          (omega arith) place.1.soon lasts;
+      blocks = λ visit settled. block_comes k t visit w place.1.put nothing
+          (subst (λ (v : ℕ). (b : ℕ) → stop_ordered k.orders v b ≡ false) (sym place.1.instance) play.unstopped) settled;
     }
   where
     is_its : (own : Ask) (t : Tenancy) (ask : Ask) → own.instance ≡ t.instance → t.instance.0 ≡ ask.instance.0 → own.instance ≡ ask.instance

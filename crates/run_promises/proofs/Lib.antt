@@ -11,3 +11,4 @@ pub mod House
 pub mod Reports
 pub mod Promises
 pub mod Worked
+pub mod Broken

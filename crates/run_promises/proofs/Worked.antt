@@ -29,7 +29,6 @@ use Rattle.run_model.specs.Fronts.{AnyByRecursion}
 use Rattle.run_model.specs.Moments.{moment_at, view_of, is_put_of, is_belief_of}
 use Rattle.run_model.specs.Orders.{IsNotPassedOver, IsStartOf, PutsAreFair, is_up_to, end_of_tick}
 use Rattle.run_model.specs.Parts.{IsPart, ViewsAreAlwaysPart, EntriesAreLocal}
-use Rattle.run_model.specs.Schedule.{is_stopped}
 use Rattle.run_model.specs.Samples.{IsOfTen, ten, all, begins, dying, seat, bytes, seated}
 use Rattle.run_model.specs.Served.{journal_at}
 use Rattle.run_model.specs.Tests.{is_empty}
@@ -439,32 +438,36 @@ pub only_cub_one : (k : Kept) (plan : IsPlan small) (s : IsOfTen) → OnlyOneDie
 only_cub_one k plan s = of-eight (λ n. n ≢ 1 → (lifetime_of (silent k plan s (dying None (Some 5) None) [] []).course n).death ≡ None)
     (λ ne. refl) (λ ne. absurd (ne refl)) (λ ne. refl) (λ ne. refl) (λ ne. refl) (λ ne. refl) (λ ne. refl) (λ ne. refl)
 
-pub presses : (k : Kept) (plan : IsPlan small) (s : IsOfTen) → PressesPlay (one_viewer k plan s) one_block 0
-presses k plan s = record {
+-- what is asked of a run can be read off its scenario, whatever is written in it
+pub presses : (k : Kept) (plan : IsPlan small) (s : IsOfTen) (log : List Noted)
+    → PressesPlay (run_of k plan s all_live [] (begins one_block) log) one_block 0
+presses k plan s log = record {
   ordered = inl (refl, refl);
   disk = omega arith;
   alone = λ other o same. sym (only-order one_block other o);
   unstopped = λ b. ⊎_elim (λ (t : stop_ordered (begins one_block) 0 b ≡ true). absurd (no_stop_among (begins one_block) 0 b (tt, tt) t)) (λ (f : stop_ordered (begins one_block) 0 b ≡ false). f) (cases_Bool (stop_ordered (begins one_block) 0 b));
 }
 
-pub house : (k : Kept) (plan : IsPlan small) (s : IsOfTen) → IsNeverFull (one_viewer k plan s) 2 1520
-house k plan s = record { few = omega arith; stops = λ v beat o. absurd (no_stop_among (begins one_block) v beat (tt, tt) o) }
+pub house : (k : Kept) (plan : IsPlan small) (s : IsOfTen) (log : List Noted)
+    → IsNeverFull (run_of k plan s all_live [] (begins one_block) log) 2 1520
+house k plan s log = record { few = omega arith; stops = λ v beat o. absurd (no_stop_among (begins one_block) v beat (tt, tt) o) }
 
-pub sound : (k : Kept) (plan : IsPlan small) (s : IsOfTen) → NothingFails (one_viewer k plan s)
-sound k plan s = record {
-  deaths = of-eight (λ n. (lifetime_of (one_viewer k plan s).course n).death ≡ None) refl refl refl refl refl refl refl refl;
+pub sound : (k : Kept) (plan : IsPlan small) (s : IsOfTen) (log : List Noted)
+    → NothingFails (run_of k plan s all_live [] (begins one_block) log)
+sound k plan s log = record {
+  deaths = of-eight (λ n. (lifetime_of (run_of k plan s all_live [] (begins one_block) log).course n).death ≡ None) refl refl refl refl refl refl refl refl;
   faults = refl;
 }
 
 pub promises : (k : Kept) (plan : IsPlan small) (s : IsOfTen) → KeepsPromises (one_viewer k plan s)
 promises k plan s = kept_runs_keep_promises (one_viewer k plan s) (one_viewer_is_kept_well k plan s)
 
-turn : IsATurn small 2 1520
+pub turn : IsATurn small 2 1520
 unfolding time_of
 turn = (omega arith, omega arith)
 
 pub served_in_full : (k : Kept) (plan : IsPlan small) (s : IsOfTen) → IsServed (one_viewer k plan s) one_block 1520
-served_in_full k plan s = (promises k plan s).house one_block 0 1520 (omega arith) (presses k plan s) turn (omega arith) (house k plan s) (sound k plan s)
+served_in_full k plan s = (promises k plan s).house one_block 0 1520 (omega arith) (presses k plan s one_log) turn (omega arith) (house k plan s one_log) (sound k plan s one_log)
 
 pub settled : (k : Kept) (plan : IsPlan small) (s : IsOfTen) → IsSettledVisit (one_viewer k plan s) (seat 0 0 0) 0
 unfolding on_samples
@@ -476,7 +479,7 @@ came k plan s =
     let run = one_viewer k plan s in
     (promises k plan s).comes (seat 0 0 0) 0 (inl (inr (inl refl))) (settled k plan s)
     (λ beat o. absurd (no_stop_among (begins one_block) 0 beat (tt, tt) o))
-    (λ death d. absurd (none_some ((sound k plan s).deaths (cub_of small 0) (cub_below small 0 plan.ranges)) d)) tt
+    (λ death d. absurd (none_some ((sound k plan s one_log).deaths (cub_of small 0) (cub_below small 0 plan.ranges)) d)) tt
   where
     none_some : {o : Option ℕ} {d : ℕ} → o ≡ None → o ≡ Some d → ⊥
     none_some a b = absurd (cc)
@@ -500,8 +503,9 @@ believes_none c beat d = ⊎_elim
 pub nobody_believed : (k : Kept) (plan : IsPlan small) (s : IsOfTen) (c beat d : ℕ) → (after_tick (one_viewer k plan s) c beat).believed c d ≡ false
 nobody_believed k plan s c beat d = subst (λ (log : List Noted). (end_of_tick beat c log).believed c d ≡ false) (sym order_is) (believes_none c beat d)
 
-pub waits_until : (k : Kept) (plan : IsPlan small) (s : IsOfTen) (last : ℕ) → 2 ≤ last → last < 1600 → IsWaiting (one_viewer k plan s) (wait 0 2 last)
-waits_until k plan s last low high = record {
+pub waits_until : (k : Kept) (plan : IsPlan small) (s : IsOfTen) (log : List Noted) (last : ℕ) → 2 ≤ last → last < 1600
+    → IsWaiting (run_of k plan s all_live [] (begins one_block) log) (wait 0 2 last)
+waits_until k plan s log last low high = record {
   asked = inl (refl, refl);
   disk = omega arith;
   small = omega arith;
@@ -515,15 +519,6 @@ waits_until k plan s last low high = record {
 pub over : (k : Kept) (plan : IsPlan small) (s : IsOfTen) → IsOver (one_viewer k plan s) (wait 0 2 1520) 2
 unfolding moment_at
 over k plan s = inl (subst (λ (log : List Noted). (end_of_tick 2 0 log).put 0 ≡ true) (sym order_is) refl)
-
-pub never_over : (k : Kept) (plan : IsPlan small) (s : IsOfTen) → IsOver (silent k plan s all_live [] (begins one_block)) (wait 0 2 1520) 1520 → ⊥
-unfolding moment_at
-never_over k plan s h =
-    let nothing : order_of 1600 (all []) ≡ [] = order_found 18 1600 [] tt in
-    ⊎_elim
-    (λ put. false≢true (subst (λ (log : List Noted). (end_of_tick 1520 0 log).put 0 ≡ true) nothing put))
-    (λ gone. false≢true (subst (λ (log : List Noted). is_stopped 0 (end_of_tick 1520 0 log).schedule.stops ≡ true) nothing gone))
-    h
 
 -- in a run in which nobody dies
 pub nobody_dies : (k : Kept) (plan : IsPlan small) (s : IsOfTen) (faults : List ReadFault) (orders : List Order) (log : List Noted)
@@ -540,7 +535,7 @@ no_death k plan s faults orders log n low death d =
     none_some o d a b = absurd (cc)
 
 pub has_room : (k : Kept) (plan : IsPlan small) (s : IsOfTen) → HasRoom (one_viewer k plan s) (wait 0 2 1520)
-has_room k plan s = room (one_viewer k plan s) (wait 0 2 1520) (one_viewer_is_kept_well k plan s) (inl refl) (house k plan s)
+has_room k plan s = room (one_viewer k plan s) (wait 0 2 1520) (one_viewer_is_kept_well k plan s) (inl refl) (house k plan s one_log)
 
 pub not_over : (k : Kept) (plan : IsPlan small) (s : IsOfTen) → IsNotOver (one_viewer k plan s) 0 100
 unfolding journal_at places_got

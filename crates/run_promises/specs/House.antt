@@ -1,5 +1,5 @@
 -- Who presses play in a house that is never full, in which nothing fails, gets every block.
-use Rattle.std.specs.Prelude.{◌≡◌, ℕ, ◌+◌, ◌*◌, ◌<◌, ◌≤◌, false, List, [], ◌∷◌, length, None}
+use Rattle.std.specs.Prelude.{◌≡◌, ℕ, ◌+◌, ◌%◌, ◌<◌, ◌≤◌, false, List, [], ◌∷◌, length, None}
 use Rattle.std.specs.List.{flat_map}
 use Rattle.tiger_base.specs.declared.tenancy.Ask.{Ask}
 use Rattle.tiger_base.specs.declared.tenancy.Tenancy.{Tenancy}
@@ -13,10 +13,10 @@ use Rattle.run_facts.specs.Commanded.{stop_ordered}
 use Rattle.run_model.specs.Orders.{IsOrdered, IsTenancyFor}
 use Rattle.run_model.specs.Served.{IsPut}
 use Rattle.run_promises.specs.Windows.{IsWide}
-use Rattle.run_promises.specs.Kept.{IsOrderedIn}
+use Rattle.run_promises.specs.Kept.{after_tick, IsOrderedIn, WasPut}
 use Rattle.run_promises.specs.Waits.{IsATurn}
 use Rattle.run_promises.specs.Placing.{NobodyIsStoppedIn}
-use Rattle.run_promises.specs.Served.{Came}
+use Rattle.run_promises.specs.Served.{IsSettledVisit, Came}
 
 -- the instances that orders begin
 abbrev pub begun_by : OrderKind → List ℕ
@@ -45,21 +45,19 @@ pub record IsNeverFull (k : Kept) (from last : ℕ) : Type 0 where
   pub few : length (begun k.orders) ≤ k.course.plan.params.slots
   pub stops : NobodyIsStoppedIn k from last
 
--- A start is served: it was put as it was asked, its first block is due soon after a beat, and block n comes if the run
--- lasts until two block play times after it is due.
+-- A start is served by a beat: it was put as it was asked, by the end of that beat's tick of the cub of the disk; its first
+-- block is due soon after the beat; and each of its blocks that is settled at the end of the run comes.
 pub record IsServed (k : Kept) (ask : Ask) (last : ℕ) : Type 0 where
   pub tenancy : Tenancy
   pub put : IsPut k.journals tenancy
   pub asked : IsTenancyFor k.course.plan.params ask tenancy
+  pub in_time : WasPut (after_tick k (ask.disk.0 % k.course.plan.params.cubs) last) ask.instance.0
   pub soon : due k.course.plan.params tenancy.slot.0 tenancy.first
       ≤ time_of k.course.plan.params last + k.course.plan.params.skew + k.course.plan.params.window_a
-  pub blocks : (n : ℕ) → n < ask.count
-      → time_of k.course.plan.params last + k.course.plan.params.skew + k.course.plan.params.window_a
-      + (n + 2) * k.course.plan.params.play ≤ time_of k.course.plan.params k.course.beats
-      → Came k tenancy (tenancy.first + n)
+  pub blocks : (visit : ℕ) → IsSettledVisit k tenancy visit → Came k tenancy visit
 
--- in such a house, in which nothing fails, who presses play is put within a turn from the greatest delay after the
--- order on, and gets every block; all that is asked can be read off the scenario
+-- in such a house, in which nothing fails, who presses play is served by the end of a turn that begins the greatest delay
+-- after the order; all that is asked can be read off the scenario
 abbrev pub WhoPressesPlayIsServed : Kept → Type 0
 WhoPressesPlayIsServed k = (ask : Ask) (ordered last : ℕ) → IsWide k.course.plan.params
     → PressesPlay k ask ordered → IsATurn k.course.plan.params (ordered + k.course.plan.params.delay) last

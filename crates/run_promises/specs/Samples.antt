@@ -1,5 +1,5 @@
 -- Worked plans and runs for the promises.
-use Rattle.std.specs.Prelude.{ℕ, zero, suc, Bool, true, false, List, [], ◌∷◌, Option, None}
+use Rattle.std.specs.Prelude.{ℕ, zero, suc, Bool, true, false, List, [], ◌∷◌, Option, None, Some}
 use Rattle.tiger_base.specs.declared.message.Note.TheVariants as note
 use Rattle.tiger_base.specs.Records.{own_of}
 use Rattle.tiger_base.specs.declared.tenancy.Ask.{Ask}
@@ -14,7 +14,7 @@ use Rattle.node_kit.specs.declared.journal.What.TheVariants as what
 use Rattle.run_facts.specs.Order.{Noted}
 use Rattle.node_kit.specs.declared.course.OrderKind.TheVariants as kind
 use Rattle.run_promises.specs.Waits.{Wait}
-use Rattle.run_model.specs.Samples.{IsOfTen, ten, all, at, ask_for, begins, starts, seated, sends, gets, first_block, put, took, gone, later, three, of_none}
+use Rattle.run_model.specs.Samples.{IsOfTen, ten, all, at, ask_for, begins, ordered, starts, seat_in, seated, sends, gets, dies, dying, first_block, put, took, gone, later, three, of_none}
 
 -- the small plan with another play time, beginning of the window and silence after which a cub is believed dead
 abbrev pub small_with : ℕ → ℕ → ℕ → Params
@@ -105,3 +105,27 @@ silent other plan sound deaths faults orders = run_of other plan sound deaths fa
 -- instance 0 is put and stopped in beat 20, and cub 0 keeps a record of it until a beat
 abbrev pub stopped_log : ℕ → List Noted
 stopped_log beat = put 0 1 three ∷ took 0 1 (own_of three 0) ∷ gone 20 0 ∷ later beat ∷ []
+
+-- ---- runs that break promises
+
+-- the start of one block is ordered in beat 0, and nothing is written
+abbrev pub unanswered : Kept → IsPlan small → IsOfTen → Kept
+unanswered other plan sound = silent other plan sound all_live [] (begins one_block)
+
+-- cub 0 puts it in a beat into a slot for one visit; nothing else is written, so that no block comes
+abbrev pub placed : Kept → IsPlan small → IsOfTen → ℕ → ℕ → ℕ → Kept
+placed other plan sound beat slot visit =
+    run_of other plan sound all_live [] (begins one_block) (put 0 beat (seat_in slot 0 visit visit) ∷ [])
+
+-- the start of three blocks is put for visits 0, 1 and 2; cub 1 alone dies, and no block comes
+abbrev pub two_lost : Kept → IsPlan small → IsOfTen → Kept
+two_lost other plan sound =
+    run_of other plan sound (dying None (Some 101) None) [] ordered (put 0 1 three ∷ dies 1 101 ∷ [])
+
+-- a stop of instance 0 is ordered in beat 20, in a run with this log
+abbrev pub stopped_run : Kept → IsPlan small → IsOfTen → List Noted → Kept
+stopped_run other plan sound log = run_of other plan sound all_live [] (stop_in 20) log
+
+-- and nobody carries it out by beat 21
+abbrev pub unstopped_log : List Noted
+unstopped_log = put 0 1 three ∷ later 21 ∷ []

@@ -22,14 +22,14 @@ ghost use Rattle.run_claims.specs.Samples.{faulty};
 ghost use Rattle.run_report.specs.Outcomes.{kind_of};
 ghost use Rattle.run_report.specs.declared.outcome.BlockKind.TheVariants.{Missing};
 ghost use Rattle.run_report.specs.declared.outcome.Reason.TheVariants.{Dead, Piece, Read};
-ghost use Rattle.run_promises.specs.House.{IsNeverFull, IsServed, NothingFails, PressesPlay};
+ghost use Rattle.run_promises.specs.House.{IsNeverFull, IsServed, NothingFails, PressesPlay, WhoPressesPlayIsServed};
 ghost use Rattle.run_promises.specs.Kept.{IsKeptWell, after_tick, WasPut};
-ghost use Rattle.run_promises.specs.Placing.{HasRoom, NobodyIsStoppedIn, TheFirstBlockIsDueSoon};
+ghost use Rattle.run_promises.specs.Placing.{AFreeVisitIsEnough, AnEmptyRingPutsSoon, EachVisitIsTried, HasRoom, NobodyIsStoppedIn, NobodyWaitsBesideAFreeSlot, TheFirstBlockIsDueSoon, WhoFindsRoomIsPut};
 ghost use Rattle.run_promises.specs.Promises.{KeepsPromises};
-ghost use Rattle.run_promises.specs.Reports.{IsTrueReason};
-ghost use Rattle.run_promises.specs.Samples.{all_live, many, one_block, one_viewer, run_of, silent, small_with, stop_in, stopped_log, wait, window_at};
+ghost use Rattle.run_promises.specs.Reports.{EachReasonIsTrue, IsTrueReason};
+ghost use Rattle.run_promises.specs.Samples.{all_live, many, one_block, one_viewer, placed, run_of, silent, small_with, stop_in, stopped_log, stopped_run, two_lost, unanswered, unstopped_log, wait, window_at};
 ghost use Rattle.run_promises.specs.Served.{Came, HasNoFault, IsNotStoppedBefore, IsSettledVisit, IsTakenOverInARound, LivesPast, OneDeathCostsOneBlock, OnlyOneDies, WhatNothingHindersComes};
-ghost use Rattle.run_promises.specs.Stops.{HasNoRecord, HasNoSlot, IsGoneFrom, IsNotOver, IsSoAfter};
+ghost use Rattle.run_promises.specs.Stops.{AStoppedViewerIsGone, HasNoRecord, HasNoSlot, IsGoneFrom, IsNotOver, IsSoAfter};
 ghost use Rattle.run_promises.specs.Waits.{IsAStep, IsATurn, IsOver, IsWaiting};
 ghost use Rattle.run_promises.specs.Windows.{IsWide};
 
@@ -103,9 +103,9 @@ pub fn waits()
         PressesPlay (one_viewer k p s) one_block 1 → ⊥ }
 {}
 
-/// Cub 0 dies in beat 50, behind one message of that beat or before all: beat 49 is the last that it
-/// ends, and so the last of a wait there. A cub that returns ends the beat of its return, but no start waits
-/// there again.
+/// Cub 0 dies in beat 50, behind one message of that beat or before all: beat 49 is the last that
+/// it ends, and so the last of a wait there. A cub that returns ends the beat of its return, but no
+/// start waits there again.
 pub fn last_beats()
     ensures before { EndsBeat (record { death = Some 50; left = Some 1; back = None; over = false })
         49 }
@@ -253,12 +253,70 @@ pub fn in_numbers()
         (log : List Noted) →
         IsGoneFrom (run_of k p s all_live [] o log) 0 20
         → IsSoAfter (run_of k p s all_live [] o log) 1200000 (λ m. HasNoRecord small m 0) }
+{}
+
+/// A start is served by a beat. It is put for visit 16 of slot 0, due at 16000000, in beat 1520 or
+/// a beat later; and in beat 1369 for visit 8 of slot 13 or of slot 12, due at 14500000 and at
+/// 14000000, of which the second alone is settled at the run's end, at 16000000. No block comes of
+/// it. If it is served by beat 1319 its first block is due by 13994000, and so it comes.
+pub fn served_in_numbers()
+    ensures in_time { (k : Kept) (p : IsPlan small) (s : IsOfTen) →
+        IsServed (placed k p s 1520 0 16) one_block 1520 }
+    ensures too_late { (k : Kept) (p : IsPlan small) (s : IsOfTen) →
+        IsServed (placed k p s 1521 0 16) one_block 1520 → ⊥ }
+    ensures soon { (k : Kept) (p : IsPlan small) (s : IsOfTen) →
+        IsServed (placed k p s 1369 13 8) one_block 1370 }
+    ensures not_soon { (k : Kept) (p : IsPlan small) (s : IsOfTen) →
+        IsServed (placed k p s 1369 13 8) one_block 1369 → ⊥ }
+    ensures no_block { (k : Kept) (p : IsPlan small) (s : IsOfTen) →
+        IsServed (placed k p s 1369 12 8) one_block 1370 → ⊥ }
+    ensures not_asked { (k : Kept) (p : IsPlan small) (s : IsOfTen) →
+        IsServed (run_of k p s all_live [] (begins one_block)
+        (put 0 1369 (seat_in 13 0 8 9) ∷ [])) one_block 1370 → ⊥ }
     ensures first { (k : Kept) (p : IsPlan small) (s : IsOfTen) (o : List Order)
         (log : List Noted) →
         (q : IsServed (run_of k p s all_live [] o log) one_block 1319)
         → due small q.tenancy.slot.0 q.tenancy.first ≤ 13994000 }
-    ensures blocks { (k : Kept) (p : IsPlan small) (s : IsOfTen) (o : List Order)
+    ensures block { (k : Kept) (p : IsPlan small) (s : IsOfTen) (o : List Order)
         (log : List Noted) →
         (q : IsServed (run_of k p s all_live [] o log) one_block 1319)
-        → Came (run_of k p s all_live [] o log) q.tenancy (q.tenancy.first + 0) }
+        → Came (run_of k p s all_live [] o log) q.tenancy q.tenancy.first }
+{}
+
+/// A start is ordered in beat 0 and waits at cub 0 from beat 2 on, but nothing is ever written, or
+/// it is put a beat late: each promise to one who waits is broken.
+pub fn waits_in_vain()
+    ensures tried { (k : Kept) (p : IsPlan small) (s : IsOfTen) →
+        EachVisitIsTried (unanswered k p s) → ⊥ }
+    ensures enough { (k : Kept) (p : IsPlan small) (s : IsOfTen) →
+        AFreeVisitIsEnough (unanswered k p s) → ⊥ }
+    ensures turn { (k : Kept) (p : IsPlan small) (s : IsOfTen) →
+        NobodyWaitsBesideAFreeSlot (unanswered k p s) → ⊥ }
+    ensures room { (k : Kept) (p : IsPlan small) (s : IsOfTen) →
+        WhoFindsRoomIsPut (unanswered k p s) → ⊥ }
+    ensures empty { (k : Kept) (p : IsPlan small) (s : IsOfTen) →
+        AnEmptyRingPutsSoon (unanswered k p s) → ⊥ }
+    ensures house { (k : Kept) (p : IsPlan small) (s : IsOfTen) →
+        WhoPressesPlayIsServed (unanswered k p s) → ⊥ }
+    ensures late { (k : Kept) (p : IsPlan small) (s : IsOfTen) →
+        WhoPressesPlayIsServed (placed k p s 1521 0 16) → ⊥ }
+{}
+
+/// Instance 0 is put in beat 1 into slot 2 for visit 0, due at 1000000, which is too late; or into
+/// slot 1, and its block does not come, though nothing hinders it and no piece was lost; or two of
+/// its blocks do not come, though cub 1 alone dies; or it has its slot a beat after it was to stop,
+/// or a record for a beat more than a block play time.
+pub fn broken_logs()
+    ensures soon { (k : Kept) (p : IsPlan small) (s : IsOfTen) →
+        TheFirstBlockIsDueSoon (placed k p s 1 2 0) → ⊥ }
+    ensures comes { (k : Kept) (p : IsPlan small) (s : IsOfTen) →
+        WhatNothingHindersComes (placed k p s 1 1 0) → ⊥ }
+    ensures one_death { (k : Kept) (p : IsPlan small) (s : IsOfTen) →
+        OneDeathCostsOneBlock (two_lost k p s) → ⊥ }
+    ensures reasons { (k : Kept) (p : IsPlan small) (s : IsOfTen) →
+        EachReasonIsTrue (placed k p s 1 1 0) → ⊥ }
+    ensures slots { (k : Kept) (p : IsPlan small) (s : IsOfTen) →
+        AStoppedViewerIsGone (stopped_run k p s unstopped_log) → ⊥ }
+    ensures views { (k : Kept) (p : IsPlan small) (s : IsOfTen) →
+        AStoppedViewerIsGone (stopped_run k p s (stopped_log 121)) → ⊥ }
 {}

@@ -28,11 +28,3 @@ returns-clause-slots c k p s o log gone = gone.slots
 pub returns-clause-views : goal.returns-clause-views
 unfolding time_of
 returns-clause-views c k p s o log gone = gone.views
-
-pub returns-clause-blocks : goal.returns-clause-blocks
-unfolding time_of
-returns-clause-blocks c k p s o log q = q.blocks 0 (omega arith) (omega arith)
-
-pub returns-clause-first : goal.returns-clause-first
-unfolding time_of
-returns-clause-first c k p s o log q = let soon = q.soon in omega (arith, soon)

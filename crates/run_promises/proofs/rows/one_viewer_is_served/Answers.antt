@@ -1,3 +1,4 @@
+use Rattle.run_promises.specs.Samples.{one_log}
 use Rattle.run_promises.proofs.Worked as worked
 use Rattle.run_promises.proofs.rows.one_viewer_is_served.Goals as goal
 
@@ -8,13 +9,13 @@ pub returns-clause-promises : goal.returns-clause-promises
 returns-clause-promises c k p s = worked.promises k p s
 
 pub returns-clause-presses : goal.returns-clause-presses
-returns-clause-presses c k p s = worked.presses k p s
+returns-clause-presses c k p s = worked.presses k p s one_log
 
 pub returns-clause-house : goal.returns-clause-house
-returns-clause-house c k p s = worked.house k p s
+returns-clause-house c k p s = worked.house k p s one_log
 
 pub returns-clause-sound : goal.returns-clause-sound
-returns-clause-sound c k p s = worked.sound k p s
+returns-clause-sound c k p s = worked.sound k p s one_log
 
 pub returns-clause-served : goal.returns-clause-served
 returns-clause-served c k p s = worked.served_in_full k p s

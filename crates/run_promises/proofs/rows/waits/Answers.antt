@@ -1,10 +1,12 @@
 use Rattle.std.proofs.Common.{sym, ◌∙◌, ⊎_elim, arith}
 use Rattle.std.proofs.lemmas.Bool.{false≢true}
+use Rattle.run_promises.specs.Samples.{one_log}
+use Rattle.run_promises.proofs.Broken as broken
 use Rattle.run_promises.proofs.Worked as worked
 use Rattle.run_promises.proofs.rows.waits.Goals as goal
 
 pub returns-clause-waits : goal.returns-clause-waits
-returns-clause-waits c k p s = worked.waits_until k p s 1520 (omega arith) (omega arith)
+returns-clause-waits c k p s = worked.waits_until k p s one_log 1520 (omega arith) (omega arith)
 
 pub returns-clause-room : goal.returns-clause-room
 returns-clause-room c k p s = worked.has_room k p s
@@ -25,13 +27,13 @@ pub returns-clause-other_beat : goal.returns-clause-other_beat
 returns-clause-other_beat c k p s h = ⊎_elim (λ e. let beat = e.0 in omega (arith, beat)) (λ n. n) h.ordered
 
 pub returns-clause-at_once : goal.returns-clause-at_once
-returns-clause-at_once c k p s = worked.waits_until k p s 2 (omega arith) (omega arith)
+returns-clause-at_once c k p s = worked.waits_until k p s one_log 2 (omega arith) (omega arith)
 
 pub returns-clause-last_beat : goal.returns-clause-last_beat
-returns-clause-last_beat c k p s = worked.waits_until k p s 1599 (omega arith) (omega arith)
+returns-clause-last_beat c k p s = worked.waits_until k p s one_log 1599 (omega arith) (omega arith)
 
 pub returns-clause-over : goal.returns-clause-over
 returns-clause-over c k p s = worked.over k p s
 
 pub returns-clause-not_over : goal.returns-clause-not_over
-returns-clause-not_over c k p s h = worked.never_over k p s h
+returns-clause-not_over c k p s h = broken.never_over k p s 1520 h
