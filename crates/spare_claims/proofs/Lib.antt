@@ -1,0 +1,3 @@
+pub mod Excuses
+pub mod Commands
+pub mod Runs
