@@ -1,11 +1,10 @@
--- The turns of the loops that gather all entries, and of the one that fills the tables.
+-- The turns of the loops that fill the tables, over all journals and over one.
 use Rattle.std.proofs.Common.{◌≡◌, ℕ, zero, suc, ◌+◌, ◌<◌, ◌≤◌, List, [], ◌∷◌, ◌++◌, length, take, drop, get_or, refl, ap, sym, subst, ◌∙◌, arith, append_assoc, append-nil}
 use Rattle.std.proofs.lemmas.List.{map-append, take_more, take_all, drop_more}
 use Rattle.node_kit.specs.declared.journal.Entry.{Entry}
 use Rattle.slot_plan.specs.declared.params.Params.{Params}
 use Rattle.run_facts.specs.Order.{Noted}
-use Rattle.audit_frame.specs.declared.lines.Line.{Line}
-use Rattle.audit_frame.specs.Lines.{noted_by, noted_line, told_by}
+use Rattle.audit_frame.specs.Lines.{noted_by}
 use Rattle.audit_blocks.specs.declared.tables.Tables.{Tables}
 use Rattle.audit_blocks.specs.Entries.{journal_noted, journals_noted}
 use Rattle.audit_blocks.specs.Told.{AreToldBy}
@@ -48,23 +47,33 @@ journals_end n journals old all over before =
     drop_all (suc k) [] h = refl
     drop_all (suc k) (x ∷ xs) h = drop_all k xs (omega (arith, h))
 
--- ---- one line more in the tables
+-- ---- in the tables
 
-pub taken_next : (p : Params) (i : ℕ) (lines : List Line) (d : Line) (old new : Tables) → i < length lines
-    → ((log : List Noted) → AreToldBy p log old → AreToldBy p (log ++ noted_line (get_or lines i d) ∷ []) new)
-    → AreToldBy p (told_by (take i lines)) old → AreToldBy p (told_by (take (i + 1) lines)) new
-taken_next p i lines d old new low taken before =
-    subst (λ (log : List Noted). AreToldBy p log new)
-    (sym (ap told_by (take_more lines i d low) ∙ map-append noted_line (take i lines) (get_or lines i d ∷ [])))
-    (taken (told_by (take i lines)) before)
+-- a journal of which so many entries were taken
+pub entry_taken : (p : Params) (n i : ℕ) (entries : List Entry) (d : Entry) (old new : Tables) (log : List Noted) → i < length entries
+    → ((told : List Noted) → AreToldBy p told old → AreToldBy p (told ++ noted_by n (get_or entries i d) ∷ []) new)
+    → AreToldBy p (log ++ journal_noted n (take i entries)) old → AreToldBy p (log ++ journal_noted n (take (i + 1) entries)) new
+entry_taken p n i entries d old new log low taken before =
+    let front = log ++ journal_noted n (take i entries) in
+    subst (λ (told : List Noted). AreToldBy p told new)
+    (entries_next n i entries d log front (front ++ noted_by n (get_or entries i d) ∷ []) low refl refl) (taken front before)
 
-pub taken_end : (p : Params) (i : ℕ) (lines : List Line) (t : Tables) → length lines ≤ i
-    → AreToldBy p (told_by (take i lines)) t → AreToldBy p (told_by lines) t
-taken_end p i lines t over before = subst (λ (q : List Line). AreToldBy p (told_by q) t) (take_all i lines over) before
+-- journals of which so many were taken: the tables tell of some entries, behind which those of the others make all
+abbrev pub HasTaken : Params → ℕ → List (List Entry) → Tables → Type 0
+HasTaken p n journals t =
+    (front : List Noted) × AreToldBy p front t × (front ++ journals_noted n (drop n journals) ≡ journals_noted 0 journals)
 
-pub tables_are_of : (p : Params) (slice entries : List Line) (journals all : List (List Entry)) (t : Tables) → slice ≡ entries
-    → told_by entries ≡ journals_noted 0 journals → journals ≡ all → AreToldBy p (told_by slice) t
-    → AreToldBy p (journals_noted 0 all) t
-tables_are_of p slice entries journals all t lent told same h =
-    subst (λ (log : List Noted). AreToldBy p log t)
-    (ap told_by lent ∙ (told ∙ ap (λ (js : List (List Entry)). journals_noted 0 js) same)) h
+pub journal_taken : (p : Params) (n : ℕ) (journals : List (List Entry)) (journal : List Entry) (old new : Tables) → n < length journals
+    → journal ≡ get_or journals n journal
+    → ((told : List Noted) → AreToldBy p told old → AreToldBy p (told ++ journal_noted n journal) new)
+    → HasTaken p n journals old → HasTaken p (n + 1) journals new
+journal_taken p n journals journal old new low item taken (front, told, rest) = (
+  front ++ journal_noted n journal,
+  taken front told,
+  journals_next n journals journal front (front ++ journal_noted n journal) (journals_noted 0 journals) low item refl rest,
+)
+
+pub all_taken : (p : Params) (n : ℕ) (journals : List (List Entry)) (t : Tables) → length journals ≤ n → HasTaken p n journals t
+    → AreToldBy p (journals_noted 0 journals) t
+all_taken p n journals t over (front, told, rest) =
+    subst (λ (log : List Noted). AreToldBy p log t) (journals_end n journals front (journals_noted 0 journals) over rest) told

@@ -1,6 +1,6 @@
 -- The settled visits of a tenancy by where they end, and where a stop comes among them.
-use Rattle.std.proofs.Common.{◌≡◌, ℕ, zero, suc, ◌+◌, ◌-◌, ◌<◌, ◌≤◌, Bool, true, false, not, ◌&&◌, cond, IsTrue, List, [], ◌∷◌, ◌++◌, length, take, filter, refl, sym, ap, ◌∙◌, ⊎_elim, arith, append-nil, length-append}
-use Rattle.std.specs.Prelude.{if◌then◌else◌, slice_index_or}
+use Rattle.std.proofs.Common.{◌≡◌, ℕ, zero, suc, ◌+◌, ◌-◌, ◌<◌, ◌≤◌, Bool, true, false, not, ◌&&◌, cond, IsTrue, List, [], ◌∷◌, ◌++◌, length, filter, refl, sym, ap, ◌∙◌, ⊎_elim, arith, append-nil, length-append}
+use Rattle.std.specs.Prelude.{if◌then◌else◌}
 use Rattle.std.specs.List.{range_with_len}
 use Rattle.std.proofs.lemmas.Bool.{cases_Bool, false≢true}
 use Rattle.std.proofs.lemmas.List.Elements.{filter-append}
@@ -10,13 +10,12 @@ use Rattle.node_kit.specs.declared.course.Kept.{Kept}
 use Rattle.node_kit.specs.declared.journal.What.{What}
 use Rattle.node_kit.specs.declared.journal.What.TheVariants as what
 use Rattle.run_facts.specs.Order.{Noted}
-use Rattle.audit_frame.specs.Lines.{noted_line, told_by}
-use Rattle.audit_frame.specs.declared.lines.Line.{Line}
-use Rattle.audit_frame.proofs.Deciding.{line_more, state_more}
-use Rattle.audit_blocks.specs.Shares.{IsParted, is_excused_by, is_in_share, lies_past, is_stopped_at, settled_visits, share_of_entry, share_of_log, share_of_put}
+use Rattle.audit_frame.proofs.Deciding.{state_more}
+use Rattle.audit_blocks.specs.Shares.{AreCountedBy, AreSharesOf, AreSharesOfPut, IsParted, is_excused_by, is_in_share, lies_past, is_stopped_at, settled_visits, share_of_entry, share_of_log, share_of_put}
 use Rattle.audit_blocks.specs.Serving.{is_settled_at}
 use Rattle.audit_blocks.specs.declared.shares.Share.{Share}
 use Rattle.audit_blocks.specs.declared.shares.Share.TheVariants as share
+use Rattle.audit_blocks.specs.declared.shares.Shares.{Shares}
 use Rattle.audit_blocks.proofs.Visiting.{is_settled_by, settled_is, dues_rise, stopped_later}
 
 -- ---- numbers in a row
@@ -143,14 +142,14 @@ two_shares k s t asked settled h =
     ∙ ap length (filter-append test (range_with_len t.first (asked - t.first)) (range_with_len asked (settled - asked)))
     ∙ length-append (filter test (range_with_len t.first (asked - t.first))) (filter test (range_with_len asked (settled - asked)))
 
-pub all_share : (k : Kept) (t : Tenancy) (asked settled : ℕ) → IsParted k t asked settled
+all_share : (k : Kept) (t : Tenancy) (asked settled : ℕ) → IsParted k t asked settled
     → settled - t.first ≡ share_of_put k share.All t
 all_share k t asked settled h =
     sym (ap (λ (l : List ℕ). length (filter (λ (n : ℕ). true) l)) (settled_are k t asked settled h)
     ∙ ap length (all_of (λ (n : ℕ). true) t.first (settled - t.first) (λ n low high. refl))
     ∙ length-range_with_len t.first (settled - t.first))
 
-pub stopped_share : (k : Kept) (t : Tenancy) (asked settled : ℕ) → IsParted k t asked settled
+stopped_share : (k : Kept) (t : Tenancy) (asked settled : ℕ) → IsParted k t asked settled
     → settled - asked ≡ share_of_put k share.Stopped t
 stopped_share k t asked settled h =
     let first = h.first in
@@ -190,30 +189,85 @@ of_others k s t asked settled count is h counted =
     let two = two_shares k s t asked settled h in
     omega (arith, counted, front, none, two)
 
-pub excused_share : (k : Kept) (s : Share) (t : Tenancy) (asked settled count : ℕ) → (s ≡ share.All → ⊥) → (s ≡ share.Stopped → ⊥)
-    → count ≡ length (filter (is_excused_by k s t) (range_with_len t.first (asked - t.first)))
-    → IsParted k t asked settled → count ≡ share_of_put k s t
-excused_share k share.All t asked settled count all stopped counted h = absurd (all refl)
-excused_share k share.Stopped t asked settled count all stopped counted h = absurd (stopped refl)
-excused_share k share.Read t asked settled count all stopped counted h =
-    of_others k share.Read t asked settled count (λ n. refl) h counted
-excused_share k share.Piece t asked settled count all stopped counted h =
-    of_others k share.Piece t asked settled count (λ n. refl) h counted
-excused_share k share.Dead t asked settled count all stopped counted h =
-    of_others k share.Dead t asked settled count (λ n. refl) h counted
-
 -- ---- the shares of a log
 
-pub one_entry_more : (k : Kept) (s : Share) (lines : List Line) (i : ℕ) (x : Line) → i < length lines
-    → ((d : Line) → slice_index_or lines i d ≡ x)
-    → share_of_log k s (take (i + 1) (told_by lines)) ≡ share_of_log k s (take i (told_by lines)) + share_of_entry k s x.entry.now.what
-one_entry_more k s lines i x low is =
-    ap (share_of_log k s) (line_more lines i x low is)
-    ∙ state_more (λ (n : ℕ) (y : Noted). n + share_of_entry k s y.entry.what) 0 (take i (told_by lines)) (noted_line x)
+-- those of no entry
+pub no_shares : (k : Kept) (c : Shares) → AreCountedBy (λ s. 0) c → AreSharesOf k [] c
+no_shares k c h = record { settled = h.settled; read = h.read; piece = h.piece; dead = h.dead; stopped = h.stopped }
 
-pub no_put_share : (k : Kept) (s : Share) (w : What) → ((t : Tenancy) → w ≡ what.Put t → ⊥) → 0 ≡ share_of_entry k s w
+-- numbers that are counted by one function are counted by another one that says the same of each share
+same_counts : (f g : Share → ℕ) (c : Shares) → ((s : Share) → f s ≡ g s) → AreCountedBy f c → AreCountedBy g c
+same_counts f g c same h = record {
+  settled = h.settled ∙ same share.All;
+  read = h.read ∙ same share.Read;
+  piece = h.piece ∙ same share.Piece;
+  dead = h.dead ∙ same share.Dead;
+  stopped = h.stopped ∙ same share.Stopped;
+}
+
+one_entry : (k : Kept) (s : Share) (log : List Noted) (x : Noted)
+    → share_of_log k s log + share_of_entry k s x.entry.what ≡ share_of_log k s (log ++ x ∷ [])
+one_entry k s log x = sym (state_more (λ (n : ℕ) (y : Noted). n + share_of_entry k s y.entry.what) 0 log x)
+
+as_counts : (k : Kept) (log : List Noted) (c : Shares) → AreSharesOf k log c → AreCountedBy (λ s. share_of_log k s log) c
+as_counts k log c h = record { settled = h.settled; read = h.read; piece = h.piece; dead = h.dead; stopped = h.stopped }
+
+of_counts : (k : Kept) (log : List Noted) (c : Shares) → AreCountedBy (λ s. share_of_log k s log) c → AreSharesOf k log c
+of_counts k log c h = record { settled = h.settled; read = h.read; piece = h.piece; dead = h.dead; stopped = h.stopped }
+
+-- those of an entry that puts a tenancy, if the sum of any counts is what is counted by both
+pub put_shared : (k : Kept) (log : List Noted) (x : Noted) (t : Tenancy) (old more new : Shares) → x.entry.what ≡ what.Put t
+    → AreSharesOf k log old → AreSharesOfPut k t more
+    → ((f g : Share → ℕ) → AreCountedBy f old → AreCountedBy g more → AreCountedBy (λ s. f s + g s) new)
+    → AreSharesOf k (log ++ x ∷ []) new
+put_shared k log x t old more new is before here summed =
+    let f = λ (s : Share). share_of_log k s log in
+    let g = λ (s : Share). share_of_put k s t in
+    of_counts k (log ++ x ∷ []) new
+    (same_counts (λ s. f s + g s) (λ s. share_of_log k s (log ++ x ∷ [])) new
+    (λ s. sym (ap (λ (w : What). share_of_log k s log + share_of_entry k s w) is) ∙ one_entry k s log x)
+    (summed f g (as_counts k log old before) here))
+
+no_put_share : (k : Kept) (s : Share) (w : What) → ((t : Tenancy) → w ≡ what.Put t → ⊥) → 0 ≡ share_of_entry k s w
 no_put_share k s (what.Put t) h = absurd (h t refl)
 no_put_share k s other h = refl
+
+-- and of one that puts none
+pub none_shared : (k : Kept) (log : List Noted) (x : Noted) (c : Shares) → ((t : Tenancy) → x.entry.what ≡ what.Put t → ⊥)
+    → AreSharesOf k log c → AreSharesOf k (log ++ x ∷ []) c
+none_shared k log x c other before =
+    of_counts k (log ++ x ∷ []) c
+    (same_counts (λ s. share_of_log k s log) (λ s. share_of_log k s (log ++ x ∷ [])) c (λ s. more s ∙ one_entry k s log x)
+    (as_counts k log c before))
+  where
+    more : (s : Share) → share_of_log k s log ≡ share_of_log k s log + share_of_entry k s x.entry.what
+    more s = let none = no_put_share k s x.entry.what other in omega (arith, none)
+
+-- ---- of a tenancy
+
+-- one that has no visit
+pub no_visits : (k : Kept) (t : Tenancy) (behind : ℕ) (c : Shares) → behind ≡ t.last + 1 → behind < t.first → AreCountedBy (λ s. 0) c
+    → AreSharesOfPut k t c
+no_visits k t behind c is low =
+    same_counts (λ s. 0) (λ s. share_of_put k s t) c
+    (λ s. ap (λ (n : ℕ). length (filter (is_in_share k s t) (filter (is_settled_at k t) (range_with_len t.first n)))) none)
+  where
+    none : 0 ≡ t.last + 1 - t.first
+    none = omega (arith, is, low)
+
+pub put_shares : (k : Kept) (t : Tenancy) (asked settled read piece dead : ℕ)
+    → read ≡ length (filter (is_excused_by k share.Read t) (range_with_len t.first (asked - t.first)))
+    → piece ≡ length (filter (is_excused_by k share.Piece t) (range_with_len t.first (asked - t.first)))
+    → dead ≡ length (filter (is_excused_by k share.Dead t) (range_with_len t.first (asked - t.first)))
+    → IsParted k t asked settled
+    → AreSharesOfPut k t (record { settled = settled - t.first; read = read; piece = piece; dead = dead; stopped = settled - asked })
+put_shares k t asked settled read piece dead read_is piece_is dead_is h = record {
+  settled = all_share k t asked settled h;
+  read = of_others k share.Read t asked settled read (λ n. refl) h read_is;
+  piece = of_others k share.Piece t asked settled piece (λ n. refl) h piece_is;
+  dead = of_others k share.Dead t asked settled dead (λ n. refl) h dead_is;
+  stopped = stopped_share k t asked settled h;
+}
 
 -- what the two searches give
 pub put_parted : (k : Kept) (t : Tenancy) (behind asked settled : ℕ) → behind ≡ t.last + 1 → t.first ≤ asked → asked ≤ settled → settled ≤ behind

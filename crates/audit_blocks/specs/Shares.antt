@@ -58,6 +58,17 @@ pub record AreSharesOf (k : Kept) (log : List Noted) (c : Shares) : Type 0 where
   pub dead : c.dead ≡ share_of_log k share.Dead log
   pub stopped : c.stopped ≡ share_of_log k share.Stopped log
 
+-- each number is what a function says of its share; and so of the shares of a tenancy
+pub record AreCountedBy (count : Share → ℕ) (c : Shares) : Type 0 where
+  pub settled : c.settled ≡ count share.All
+  pub read : c.read ≡ count share.Read
+  pub piece : c.piece ≡ count share.Piece
+  pub dead : c.dead ≡ count share.Dead
+  pub stopped : c.stopped ≡ count share.Stopped
+
+abbrev pub AreSharesOfPut : Kept → Tenancy → Shares → Type 0
+AreSharesOfPut k t = AreCountedBy (λ s. share_of_put k s t)
+
 -- ---- along the visits of a tenancy
 
 -- whether a visit is not settled, or one before whose end the instance was stopped: either is so of all later ones too

@@ -5,7 +5,6 @@
 mod cargo;
 mod delivered;
 mod dispatches;
-mod entries;
 mod excused;
 mod groups;
 mod keeping;

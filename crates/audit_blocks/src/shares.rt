@@ -1,8 +1,10 @@
 //! How many visits of the Puts of a log are settled at the end of a run, and what may excuse them.
-ghost use Rattle.std.specs.Prelude.{◌≡◌, ℕ, ◌+◌, ◌-◌, ◌<◌, ◌≤◌, true, false, length, filter, IfOk, if◌then◌else◌};
+ghost use Rattle.std.specs.Prelude.{[], ◌≡◌, ℕ, ◌+◌, ◌-◌, ◌<◌, ◌≤◌, ◌∷◌, ◌++◌, true, false, List, length, filter, IfOk, if◌then◌else◌};
 ghost use Rattle.std.specs.List.{range_with_len};
-ghost use Rattle.audit_frame.specs.Lines.{told_by};
-ghost use Rattle.audit_blocks.specs.Shares.{AreSharesOf, IsParted, is_excused_by, lies_past, share_of_entry, share_of_log, share_of_put};
+ghost use Rattle.run_facts.specs.Order.{Noted};
+ghost use Rattle.audit_frame.specs.Lines.{noted_line, told_by};
+ghost use Rattle.audit_blocks.specs.Shares.{AreCountedBy, AreSharesOf, AreSharesOfPut, IsParted, is_excused_by, lies_past};
+ghost use Rattle.audit_blocks.specs.declared.shares.Share.{Share};
 ghost use Rattle.audit_blocks.specs.Told.{AreTablesOf};
 
 use crate::excused::{is_unserved_back, lost_in_death, lost_in_pieces, was_stopped};
@@ -47,36 +49,65 @@ pub fn shares_of<'a>(kept: &Kept, tables: &Tables, log: &[Line<'a>]) -> Result<S
     requires { AreTablesOf kept.now tables.now }
     ensures { IfOk result (AreSharesOf kept.now (told_by log.now)) }
 {
-    let settled = share_of_log(kept, tables, log, Share::All)?;
-    let read = share_of_log(kept, tables, log, Share::Read)?;
-    let piece = share_of_log(kept, tables, log, Share::Piece)?;
-    let dead = share_of_log(kept, tables, log, Share::Dead)?;
-    let stopped = share_of_log(kept, tables, log, Share::Stopped)?;
-    Ok(Shares {
-        settled,
-        read,
-        piece,
-        dead,
-        stopped,
-    })
+    let mut shares = Shares::of_nothing();
+    for i in 0..log.len() {
+        shares = with_entry(kept, tables, shares, &line_at(log, i))?;
+    }
+    Ok(shares)
 }
 
-/// How many visits a share has of the tenancies that a log puts.
-fn share_of_log<'a>(
+/// Shares with those of the tenancy that one more entry puts.
+fn with_entry<'a>(
     k: &Kept,
     tables: &Tables,
-    log: &[Line<'a>],
-    share: Share,
-) -> Result<u64, NoMemory>
+    shares: Shares,
+    line: &Line<'a>,
+) -> Result<Shares, NoMemory>
     requires { AreTablesOf k.now tables.now }
-    ensures { IfOk result (λ (n : ℕ). n ≡ share_of_log k.now share (told_by log.now)) }
+    ensures { IfOk result (λ c. (log : List Noted) → AreSharesOf k.now log shares
+        → AreSharesOf k.now (log ++ noted_line line.now ∷ []) c) }
 {
-    let mut count = 0;
-    for i in 0..log.len() {
-        let more = share_of_entry(k, tables, &line_at(log, i), share)?;
-        count = sum(count, more)?;
+    match line.entry.what {
+        What::Put(t) => {
+            let more = shares_of_put(k, tables, &t)?;
+            shares.plus(more)
+        }
+        _ => Ok(shares),
     }
-    Ok(count)
+}
+
+impl Shares {
+    /// Those of no visit.
+    fn of_nothing() -> Shares
+        ensures { AreCountedBy (λ s. 0) result }
+    {
+        Shares {
+            settled: 0,
+            read: 0,
+            piece: 0,
+            dead: 0,
+            stopped: 0,
+        }
+    }
+
+    /// Those of these visits and of others.
+    fn plus(self, more: Shares) -> Result<Shares, NoMemory>
+        ensures { IfOk result (λ c. (f g : Share → ℕ) → AreCountedBy f self → AreCountedBy g more
+            → AreCountedBy (λ s. f s + g s) c) }
+    {
+        let settled = sum(self.settled, more.settled)?;
+        let read = sum(self.read, more.read)?;
+        let piece = sum(self.piece, more.piece)?;
+        let dead = sum(self.dead, more.dead)?;
+        let stopped = sum(self.stopped, more.stopped)?;
+        Ok(Shares {
+            settled,
+            read,
+            piece,
+            dead,
+            stopped,
+        })
+    }
 }
 
 fn sum(a: u64, b: u64) -> Result<u64, NoMemory>
@@ -85,54 +116,33 @@ fn sum(a: u64, b: u64) -> Result<u64, NoMemory>
     a.checked_add(b).ok_or(NoMemory)
 }
 
-/// How many it has of the tenancy that an entry puts.
-fn share_of_entry<'a>(
-    k: &Kept,
-    tables: &Tables,
-    line: &Line<'a>,
-    share: Share,
-) -> Result<u64, NoMemory>
+/// How many each share has of a tenancy.
+fn shares_of_put(k: &Kept, tables: &Tables, t: &Tenancy) -> Result<Shares, NoMemory>
     requires { AreTablesOf k.now tables.now }
-    ensures { IfOk result (λ (n : ℕ). n ≡ share_of_entry k.now share line.now.entry.now.what) }
-{
-    match line.entry.what {
-        What::Put(t) => share_of_put(k, tables, &t, share),
-        _ => Ok(0),
-    }
-}
-
-/// How many it has of a tenancy.
-fn share_of_put(k: &Kept, tables: &Tables, t: &Tenancy, share: Share) -> Result<u64, NoMemory>
-    requires { AreTablesOf k.now tables.now }
-    ensures { IfOk result (λ (n : ℕ). n ≡ share_of_put k.now share t.now) }
+    ensures { IfOk result (AreSharesOfPut k.now t.now) }
 {
     let behind = sum(t.last, 1)?;
     if behind < t.first {
-        return Ok(0);
+        return Ok(Shares::of_nothing());
     }
     let settled = first_past(k, tables, t, false, t.first, behind);
     let asked = first_past(k, tables, t, true, t.first, settled);
-    Ok(share_between(k, tables, t, share, asked, settled))
+    Ok(shares_between(k, tables, t, asked, settled))
 }
 
-/// How many it has, if the visits are settled up to one, and the instance is not yet stopped up to another.
-fn share_between(
-    k: &Kept,
-    tables: &Tables,
-    t: &Tenancy,
-    share: Share,
-    asked: Visit,
-    settled: Visit,
-) -> u64
+/// How many each has, if the visits are settled up to one, and the instance is not yet stopped up to another.
+fn shares_between(k: &Kept, tables: &Tables, t: &Tenancy, asked: Visit, settled: Visit) -> Shares
     requires told { AreTablesOf k.now tables.now }
     requires first { t.now.first ≤ asked }
     requires order { asked ≤ settled }
-    ensures { IsParted k.now t.now asked settled → result ≡ share_of_put k.now share t.now }
+    ensures { IsParted k.now t.now asked settled → AreSharesOfPut k.now t.now result }
 {
-    match share {
-        Share::All => settled - t.first,
-        Share::Stopped => settled - asked,
-        _ => excused_between(k, tables, t, share, t.first, asked),
+    Shares {
+        settled: settled - t.first,
+        read: excused_between(k, tables, t, Share::Read, t.first, asked),
+        piece: excused_between(k, tables, t, Share::Piece, t.first, asked),
+        dead: excused_between(k, tables, t, Share::Dead, t.first, asked),
+        stopped: settled - asked,
     }
 }
 

@@ -1,8 +1,9 @@
 //! The tables of what the journals of a run tell of blocks: each entry is read once, for all of them.
-ghost use Rattle.std.specs.Prelude.{◌≡◌, [], ◌∷◌, ◌++◌, List, IfOk, OnOk};
+ghost use Rattle.std.specs.Prelude.{◌≤◌, [], ◌∷◌, ◌++◌, List, length, IfOk, OnOk};
 ghost use Rattle.slot_plan.specs.declared.params.Params.{Params};
 ghost use Rattle.run_facts.specs.Order.{Noted};
-ghost use Rattle.audit_frame.specs.Lines.{noted_line, told_by};
+ghost use Rattle.audit_frame.specs.Lines.{noted_line};
+ghost use Rattle.audit_blocks.specs.Entries.{journal_noted, journals_noted};
 ghost use Rattle.audit_blocks.specs.Told.{AreToldBy};
 
 use crate::cargo::cargo_got;
@@ -15,9 +16,10 @@ use crate::keeping::{
 use crate::parts::Parts;
 use crate::receipts::Arrivals;
 use audit_frame::{Line, Marks};
+use node_kit::{Entry, Journal};
 use slot_plan::Plan;
 use std::alloc::Global;
-use tiger_base::{Beat, Micros, NoMemory, Tenancy};
+use tiger_base::{Beat, Micros, NoMemory, NodeNo, Tenancy};
 
 /// What entries tell, with a table for each question.
 #[derive(Drop)]
@@ -45,13 +47,14 @@ pub struct Tables {
 }
 
 impl Tables {
-    /// The tables of a log.
-    pub fn of<'a>(alloc: Global, plan: &Plan, log: &[Line<'a>]) -> Result<Tables, NoMemory>
-        ensures { IfOk result (λ t. AreToldBy plan.now.params (told_by log.now) t) }
+    /// The tables of what journals tell, of which the first is that of node 0.
+    pub fn of(alloc: Global, plan: &Plan, journals: &[Journal]) -> Result<Tables, NoMemory>
+        requires { length journals.now ≤ 1000 }
+        ensures { IfOk result (λ t. AreToldBy plan.now.params (journals_noted 0 journals.now) t) }
     {
         let mut tables = Tables::new(alloc);
-        for line in log {
-            tables.take(alloc, plan, line)?;
+        for (n, journal) in journals.iter().enumerate() {
+            tables.take_journal(alloc, plan, NodeNo(n as u32), journal)?;
         }
         Ok(tables)
     }
@@ -72,6 +75,37 @@ impl Tables {
             pieces: Arrivals::new(alloc),
             visits: Parts::new(alloc),
         }
+    }
+
+    /// Takes the journal of one more node.
+    fn take_journal(
+        &mut self,
+        alloc: Global,
+        plan: &Plan,
+        node: NodeNo,
+        journal: &Journal,
+    ) -> Result<(), NoMemory>
+        ensures { OnOk result ((log : List Noted) → AreToldBy plan.now.params log self.old
+            → AreToldBy plan.now.params (log ++ journal_noted node.0 journal.now) self.new) }
+    {
+        self.take_entries(alloc, plan, node, journal.as_slice())
+    }
+
+    /// Takes more entries of a node.
+    fn take_entries(
+        &mut self,
+        alloc: Global,
+        plan: &Plan,
+        node: NodeNo,
+        entries: &[Entry],
+    ) -> Result<(), NoMemory>
+        ensures { OnOk result ((log : List Noted) → AreToldBy plan.now.params log self.old
+            → AreToldBy plan.now.params (log ++ journal_noted node.0 entries.now) self.new) }
+    {
+        for entry in entries {
+            self.take(alloc, plan, &Line { node, entry })?;
+        }
+        Ok(())
     }
 
     /// Takes one more entry.

@@ -7,7 +7,6 @@ ghost use Rattle.audit_blocks.specs.Serving.{end_of_run};
 ghost use Rattle.audit_blocks.specs.Told.{AreTablesOf};
 ghost use Rattle.audit_blocks.specs.Verdicts.{IsServedIn, IsPutHere, FindsFirst};
 
-use crate::entries::entries_of;
 use crate::rightful::is_of_put_if_viewers;
 use crate::serving::is_served;
 use crate::tables::Tables;
@@ -23,8 +22,7 @@ pub fn tables_of(alloc: Global, kept: &Kept) -> Result<Tables, NoMemory>
     requires { length kept.now.journals ≤ 1000 }
     ensures { IfOk result (λ tables. AreTablesOf kept.now tables) }
 {
-    let entries = entries_of(alloc, kept.journals.as_slice())?;
-    Tables::of(alloc, &kept.course.plan, entries.as_slice())
+    Tables::of(alloc, &kept.course.plan, kept.journals.as_slice())
 }
 
 /// The first entry of the log of a kept run that puts a tenancy with a settled visit which is neither delivered nor

@@ -21,7 +21,7 @@ use Rattle.run_facts.proofs.Rows.{all-append}
 use Rattle.run_model.specs.Runs.{IsCarriedRun}
 use Rattle.run_model.specs.Tests.{at_its_end}
 use Rattle.run_model.proofs.Reflects.{equal}
-use Rattle.audit_orders.specs.Carrying.{half_of, back_at_end, back_to, stream_of, sent_at, got_at, all_sent_at, all_got_at, all_entries, AreFirstSent, MayBeLostTo, MayBeLostOn, StreamCounts, count_under, TellsGot, NoneIsLost, AreAtEnds, AllAtEnds, IsStrayIn, IsWrongIn, IsLostIn, IsStrayEntry, IsWrongGot, IsLost, IsUncarriedAt, DecidesCarried}
+use Rattle.audit_orders.specs.Carrying.{half_of, back_at_end, back_to, stream_of, sent_at, got_at, all_sent_at, all_got_at, all_entries, AreFirstSent, MayBeLostTo, MayBeLostOn, StreamCounts, TellsGot, NoneIsLost, AreAtEnds, AllAtEnds, IsStrayIn, IsUncarriedAt, DecidesCarried}
 use Rattle.audit_orders.specs.declared.carrying.Uncarried.{Uncarried}
 use Rattle.audit_orders.proofs.Posting.{stream_is}
 use Rattle.audit_orders.proofs.Walks.{one_more}
@@ -55,11 +55,13 @@ end_more p n journal i e low is at h =
     (all-append (λ (x : Entry). IsAtItsEnd p n x.what) (take i journal) (e ∷ []) h ((at_end p n e.what).0 at, tt))
 
 pub stray_here : (p : Params) (n : ℕ) (journal : List Entry) (i : ℕ) (e : Entry) → i < length journal
-    → ((d : Entry) → slice_index_or journal i d ≡ e) → at_its_end (links_of p) n e.what ≡ false → IsStrayIn p n journal i
-stray_here p n journal i e low is at = (
+    → ((d : Entry) → slice_index_or journal i d ≡ e) → at_its_end (links_of p) n e.what ≡ false → AreAtEnds p n (take i journal)
+    → IsStrayIn p n journal i
+stray_here p n journal i e low is at before = (
   e,
   slice_get-get_or journal i e low ∙ ap (λ (x : Entry). Some x) (is e),
   λ h. both_ways (at_its_end (links_of p) n e.what) at ((at_end p n e.what).1 h),
+  before,
 )
 
 -- ---- streams of one link
@@ -331,31 +333,6 @@ halves_of most beats life (Some back) sent got carried (suc zero) low =
 halves_of most beats life back sent got carried (suc (suc h)) low = absurd (omega (arith, low))
 
 -- ---- one journal more
-
-pub stray_found : (c : Course) (journals : List (List Entry)) (n place : ℕ) (journal : List Entry) → slice_get journals n ≡ Some journal
-    → IsStrayIn c.plan.params n journal place → IsStrayEntry c journals n place
-stray_found c journals n place journal here h = record { journal = journal; here = here; entry = h.0; at = h.1; stray = h.2 }
-
-pub wrong_found : (c : Course) (journals : List (List Entry)) (n place : ℕ) (journal : List Entry) → slice_get journals n ≡ Some journal
-    → IsWrongIn c (all_entries journals) (all_entries (take n journals)) journal place → IsWrongGot c journals n place
-wrong_found c journals n place journal here h =
-    record { journal = journal; here = here; inside = h.inside; stream = h.stream; before = h.before; with_it = h.with_it }
-
-pub lost_found : (c : Course) (journals : List (List Entry)) (got : StreamCounts) (n place : ℕ) (journal : List Entry)
-    → ((s : ℕ) → count_under s got ≡ length (all_got_at c s (all_entries journals))) → slice_get journals n ≡ Some journal
-    → IsLostIn c got (all_entries (take n journals)) journal place → IsLost c journals n place
-lost_found c journals got n place journal counted here h = record {
-  journal = journal;
-  here = here;
-  entry = h.entry;
-  at = h.at;
-  link = h.link;
-  note = h.note;
-  sends = h.sends;
-  behind = subst (λ (x : ℕ). x ≤ length (all_sent_at c (stream_of c h.link.0 h.entry.stamp.beat) (all_entries (take n journals) ++ take place journal)))
-      (counted (stream_of c h.link.0 h.entry.stamp.beat)) h.behind;
-  needed = h.needed;
-}
 
 pub ends_more : (p : Params) (journals : List (List Entry)) (n : ℕ) (journal : List Entry) → slice_get journals n ≡ Some journal
     → AreAtEnds p n journal → ((m : ℕ) (other : List Entry) → m < n → slice_get journals m ≡ Some other → AreAtEnds p m other)

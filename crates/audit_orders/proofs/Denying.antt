@@ -8,13 +8,15 @@ use Rattle.std.proofs.lemmas.List.{take-append-drop, length-append}
 use Rattle.std.proofs.lemmas.List.Elements.{filter-append}
 use Rattle.tiger_base.specs.declared.number.Instance.{Instance}
 use Rattle.slot_plan.specs.declared.params.Params.{Params}
+use Rattle.node_kit.specs.declared.course.Course.{Course}
 use Rattle.node_kit.specs.declared.course.Order.{Order}
 use Rattle.node_kit.specs.declared.journal.Entry.{Entry}
 use Rattle.node_kit.specs.declared.journal.What.TheVariants as what
+use Rattle.node_kit.specs.Life.{back_of}
 use Rattle.run_facts.specs.Commanded.{start_in, starts_sent, starts_at, starts_ordered, is_gone, is_gone_of, gone_in, StopsNone, IsCommanded}
 use Rattle.audit_orders.specs.Breaches.{DecidesList}
-use Rattle.audit_orders.specs.Commanding.{IsGoneAt, IsWrongStart, IsUnsent, IsWrongStop, IsStopMissing, takes_effect, clock_of}
-use Rattle.audit_orders.specs.Returning.{TellsReturnIn}
+use Rattle.audit_orders.specs.Commanding.{IsGoneAt, starts_due, IsWrongStart, IsUnsent, IsWrongStop, IsStopMissing, takes_effect, clock_of}
+use Rattle.audit_orders.specs.Returning.{IsUntoldAt, TellsReturnIn}
 use Rattle.audit_orders.specs.Timing.{IsTimedIn}
 use Rattle.audit_orders.specs.Verdicts.{UntimedDenies, CommandsOfAccounts, UncommandedDenies}
 use Rattle.audit_orders.specs.declared.commanding.Uncommanded.TheVariants as un
@@ -25,9 +27,15 @@ use Rattle.audit_orders.specs.declared.timing.Untimed.TheVariants as untimed
 -- ---- times
 
 -- a list with a flaw does not meet the claim
-flaw_denies : {X : Type 0} (Claim : List X → Type 0) (xs : List X) (found : Flaw) → DecidesList Claim xs (Some found) → Claim xs → ⊥
+pub flaw_denies : {X : Type 0} (Claim : List X → Type 0) (xs : List X) (found : Flaw) → DecidesList Claim xs (Some found) → Claim xs → ⊥
 flaw_denies {X} Claim xs (flaw.Entry i) h claim = h.with_it (drop (i + 1) xs, subst Claim (sym (take-append-drop (i + 1) xs)) claim)
 flaw_denies Claim xs flaw.Missing h claim = h.not_yet claim
+
+pub untold_denies : (c : Course) (n : ℕ) (journal : List Entry) (i : ℕ) → IsUntoldAt c.beats (back_of c n) journal i → TellsReturnIn c n journal → ⊥
+untold_denies c n journal i h told = ⊎_elim
+    (λ a. flaw_denies (TellsReturnIn c n) journal (flaw.Entry i) a told)
+    (λ a. a.unfinished.not_yet told)
+    h
 
 pub untimed_denies : UntimedDenies
 untimed_denies k (untimed.Journal node found) h timed =
@@ -35,11 +43,7 @@ untimed_denies k (untimed.Journal node found) h timed =
 untimed_denies k (untimed.Neighbours cub) h timed = h.1.both (timed.apart cub.0 h.1.cub)
 untimed_denies k (untimed.Return node i) h timed =
     let first = h.1.1 in
-    let told = timed.returns node.0 first.journal first.here in
-    ⊎_elim
-    (λ a. flaw_denies (TellsReturnIn k.course node.0) first.journal (flaw.Entry i) a told)
-    (λ a. a.unfinished.not_yet told)
-    first.untold
+    untold_denies k.course node.0 first.journal i first.untold (timed.returns node.0 first.journal first.here)
 
 -- ---- orders
 
@@ -58,39 +62,48 @@ any_there test (y ∷ ys) (suc i) x at t = ap (λ (b : Bool). test y || b) (any_
     or_true true = refl
     or_true false = refl
 
-gone_denies : (journal : List Entry) (i : ℕ) → IsGoneAt journal i → StopsNone journal → ⊥
+pub gone_denies : (journal : List Entry) (i : ℕ) → IsGoneAt journal i → StopsNone journal → ⊥
 gone_denies journal i h none =
     both_ways (list_any (λ (e : Entry). is_gone e.what) journal) none (any_there (λ (e : Entry). is_gone e.what) journal i h.0 h.1 h.2)
 
 -- what was sent up to a place is the first of what was sent
-sent_front : (p : Params) (b n : ℕ) (journal : List Entry) → starts_sent p b (take n journal) ++ starts_sent p b (drop n journal) ≡ starts_sent p b journal
+pub sent_front : (p : Params) (b n : ℕ) (journal : List Entry) → starts_sent p b (take n journal) ++ starts_sent p b (drop n journal) ≡ starts_sent p b journal
 unfolding starts_sent
 sent_front p b n journal =
     sym (flat_map-append (start_in p b) (take n journal) (drop n journal)) ∙ ap (starts_sent p b) (take-append-drop n journal)
 
-ordered_front : (p : Params) (b n : ℕ) (orders : List Order)
+pub ordered_front : (p : Params) (b n : ℕ) (orders : List Order)
     → starts_ordered p b (take n orders) ++ starts_ordered p b (drop n orders) ≡ starts_ordered p b orders
 unfolding starts_ordered
 ordered_front p b n orders =
     sym (flat_map-append (starts_at p b) (take n orders) (drop n orders)) ∙ ap (starts_ordered p b) (take-append-drop n orders)
 
-start_denies : (p : Params) (beats : ℕ) (reading : ℕ → ℕ) (orders : List Order) (journal : List Entry) (i : ℕ)
-    → IsWrongStart p beats orders journal i → IsCommanded p beats reading orders journal → ⊥
-start_denies p beats reading orders journal i h all =
-    h.with_it (starts_sent p h.beat (drop (i + 1) journal), sent_front p h.beat (i + 1) journal ∙ all.starts h.beat)
+-- a wrong start is of a beat in which what was sent is not what was due, and so is an order whose start was not sent
+pub start_sent : (p : Params) (beats : ℕ) (orders : List Order) (journal : List Entry) (i : ℕ) (h : IsWrongStart p beats orders journal i)
+    → starts_sent p h.beat journal ≡ starts_due p beats orders h.beat → ⊥
+start_sent p beats orders journal i h sent =
+    h.with_it (starts_sent p h.beat (drop (i + 1) journal), sent_front p h.beat (i + 1) journal ∙ sent)
 
-unsent_denies : (p : Params) (beats : ℕ) (reading : ℕ → ℕ) (orders : List Order) (journal : List Entry) (j : ℕ)
-    → IsUnsent p beats orders journal j → IsCommanded p beats reading orders journal → ⊥
-unsent_denies p beats reading orders journal j h all =
+pub unsent_sent : (p : Params) (beats : ℕ) (orders : List Order) (journal : List Entry) (j : ℕ) (h : IsUnsent p beats orders journal j)
+    → starts_sent p h.order.beat journal ≡ starts_due p beats orders h.order.beat → ⊥
+unsent_sent p beats orders journal j h sent =
     let b = h.order.beat in
     h.lacks (
       starts_ordered p b (drop (j + 1) orders),
       ordered_front p b (j + 1) orders
-          ∙ sym (ap (λ (t : Bool). cond t (starts_ordered p b orders) []) (lt-ltb b beats h.early)) ∙ sym (all.starts b),
+          ∙ sym (ap (λ (t : Bool). cond t (starts_ordered p b orders) []) (lt-ltb b beats h.early)) ∙ sym sent,
     )
 
+start_denies : (p : Params) (beats : ℕ) (reading : ℕ → ℕ) (orders : List Order) (journal : List Entry) (i : ℕ)
+    → IsWrongStart p beats orders journal i → IsCommanded p beats reading orders journal → ⊥
+start_denies p beats reading orders journal i h all = start_sent p beats orders journal i h (all.starts h.beat)
+
+unsent_denies : (p : Params) (beats : ℕ) (reading : ℕ → ℕ) (orders : List Order) (journal : List Entry) (j : ℕ)
+    → IsUnsent p beats orders journal j → IsCommanded p beats reading orders journal → ⊥
+unsent_denies p beats reading orders journal j h all = unsent_sent p beats orders journal j h (all.starts h.order.beat)
+
 -- an entry that stops an instance
-stops_it : (journal : List Entry) (i : ℕ) (e : Entry) (v : Instance) → slice_get journal i ≡ Some e → e.what ≡ what.Gone v
+pub stops_it : (journal : List Entry) (i : ℕ) (e : Entry) (v : Instance) → slice_get journal i ≡ Some e → e.what ≡ what.Gone v
     → gone_in journal v.0 e.stamp.beat ≡ true
 unfolding gone_in
 stops_it journal i e v at is =
@@ -107,7 +120,7 @@ some_of {X} test (x ∷ xs) e = by (test x) refl e (λ k. some_of test xs k)
     by true is k rest = omega arith
     by false is k rest = rest k
 
-two_of : {X : Type 0} (test : X → Bool) (xs : List X) (i : ℕ) (x : X) → slice_get xs i ≡ Some x → test x ≡ true
+pub two_of : {X : Type 0} (test : X → Bool) (xs : List X) (i : ℕ) (x : X) → slice_get xs i ≡ Some x → test x ≡ true
     → list_any test (take i xs) ≡ true → 2 ≤ length (filter test xs)
 two_of {X} test xs i x at t before =
     let first = some_of test (take i xs) before in
@@ -141,12 +154,14 @@ unstopped_denies p beats reading orders journal j h all =
     both_ways (gone_in journal h.v.0 h.order.beat) h.missing (all.stops h.v.0 h.order.beat ∙ h.effective)
 
 pub uncommanded_denies : UncommandedDenies
-uncommanded_denies k (un.Foreign node i) h all = gone_denies h.journal i h.gone (all.others node.0 h.journal h.other h.here)
+uncommanded_denies k (un.Foreign node i) f all =
+    let h = f.here in
+    gone_denies h.journal i h.gone (all.others node.0 h.journal h.other h.here)
 uncommanded_denies k (un.Start i) h all =
-    start_denies k.course.plan.params k.course.beats (clock_of k.course) k.orders h.0 i h.2 (all.controller h.0 h.1)
+    start_denies k.course.plan.params k.course.beats (clock_of k.course) k.orders h.1 i h.3 (all.controller h.1 h.2)
 uncommanded_denies k (un.Unsent j) h all =
-    unsent_denies k.course.plan.params k.course.beats (clock_of k.course) k.orders h.0 j h.2 (all.controller h.0 h.1)
+    unsent_denies k.course.plan.params k.course.beats (clock_of k.course) k.orders h.1 j h.3 (all.controller h.1 h.2)
 uncommanded_denies k (un.Stop i) h all =
-    stop_denies k.course.plan.params k.course.beats (clock_of k.course) k.orders h.0 i h.2 (all.controller h.0 h.1)
+    stop_denies k.course.plan.params k.course.beats (clock_of k.course) k.orders h.1 i h.3.1.here (all.controller h.1 h.2)
 uncommanded_denies k (un.Unstopped j) h all =
-    unstopped_denies k.course.plan.params k.course.beats (clock_of k.course) k.orders h.0 j h.2 (all.controller h.0 h.1)
+    unstopped_denies k.course.plan.params k.course.beats (clock_of k.course) k.orders h.1 j h.3.1.first.here (all.controller h.1 h.2)

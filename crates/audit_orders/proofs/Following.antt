@@ -6,20 +6,32 @@ use Rattle.std.proofs.lemmas.Bool.{cases_eq}
 use Rattle.std.proofs.lemmas.List.{take_all}
 use Rattle.std.proofs.lemmas.List.Folds.{list_any-append}
 use Rattle.std.proofs.lemmas.Option.{slice_get-get_or, slice_get_within}
+use Rattle.slot_plan.specs.declared.params.Params.{Params}
 use Rattle.node_kit.specs.declared.course.Kept.{Kept}
+use Rattle.node_kit.specs.declared.course.Order.{Order}
 use Rattle.node_kit.specs.declared.journal.Entry.{Entry}
 use Rattle.node_kit.specs.Links.{links_of, controller_of}
 use Rattle.run_facts.specs.Commanded.{is_gone, StopsNone, IsCommanded}
-use Rattle.audit_orders.specs.Commanding.{IsGoneAt, IsForeignStop, OthersStopNone, DecidesController, DecidesCommanded, clock_of}
+use Rattle.audit_orders.specs.Earliest.{IsFirstEntry, IsFirstInRow}
+use Rattle.audit_orders.specs.Commanding.{IsGoneAt, IsForeignStop, OthersStopNone, AreSent, DecidesStops, DecidesController, DecidesCommanded, clock_of}
 use Rattle.audit_orders.specs.declared.commanding.Uncommanded.{Uncommanded}
 use Rattle.audit_orders.specs.declared.commanding.Uncommanded.TheVariants as un
+use Rattle.audit_orders.proofs.Denying.{gone_denies}
+use Rattle.audit_orders.proofs.Earliest.{in_front, none_earlier, one_journal}
 use Rattle.audit_orders.proofs.Walks.{one_more}
 
 -- ---- the stops of one journal
 
-pub gone_there : (journal : List Entry) (i : ℕ) (e : Entry) → i < length journal → ((d : Entry) → slice_index_or journal i d ≡ e)
+gone_there : (journal : List Entry) (i : ℕ) (e : Entry) → i < length journal → ((d : Entry) → slice_index_or journal i d ≡ e)
     → is_gone e.what ≡ true → IsGoneAt journal i
 gone_there journal i e low is gone = (e, slice_get-get_or journal i e low ∙ ap (λ (x : Entry). Some x) (is e), gone)
+
+pub first_gone_there : (journal : List Entry) (i : ℕ) (e : Entry) → i < length journal → ((d : Entry) → slice_index_or journal i d ≡ e)
+    → is_gone e.what ≡ true → StopsNone (take i journal) → IsFirstInRow (IsGoneAt journal) i
+first_gone_there journal i e low is gone none = record {
+  here = gone_there journal i e low is gone;
+  none_before = λ j above h. gone_denies (take i journal) j (h.0, in_front journal i j h.0 above h.1, h.2) none;
+}
 
 pub none_gone_more : (journal : List Entry) (i : ℕ) (e : Entry) → i < length journal → ((d : Entry) → slice_index_or journal i d ≡ e)
     → is_gone e.what ≡ false → StopsNone (take i journal) → StopsNone (take (i + 1) journal)
@@ -61,18 +73,36 @@ all_others controller n journals over lower m journal ne at =
     lower m journal (omega (arith, over, low)) ne at
 
 pub foreign_found : (controller n i : ℕ) (journals : List (List Entry)) (journal : List Entry) → n < length journals
-    → journal ≡ get_or journals n journal → n ≢ controller → IsGoneAt journal i → IsForeignStop controller journals n i
-foreign_found controller n i journals journal low is ne gone =
-    record { other = ne; journal = journal; here = journal_at journals n journal low is; gone = gone }
+    → journal ≡ get_or journals n journal → n ≢ controller → IsFirstInRow (IsGoneAt journal) i → OthersSoFar controller n journals
+    → IsFirstEntry (IsForeignStop controller journals) n i
+foreign_found controller n i journals journal low is ne first lower =
+    let at = journal_at journals n journal low is in
+    record {
+      here = record { other = ne; journal = journal; here = at; gone = first.here };
+      none_before = none_earlier (IsForeignStop controller journals) n i
+          (λ m j below h. gone_denies h.journal j h.gone (lower m h.journal below h.other h.here))
+          (λ j above h.
+          let one = one_journal journals n h.journal journal h.here at in
+          first.none_before j above (subst (λ (q : List Entry). IsGoneAt q j) one h.gone));
+    }
 
 -- what is said of a journal is said of one of another node
 pub other_says : (n controller : ℕ) (journal : List Entry) (answer : Option ℕ) → (n ≡ controller → ⊥)
-    → MatchOption answer (StopsNone journal) (IsGoneAt journal)
-    → MatchOption answer (n ≢ controller → StopsNone journal) (λ i. (n ≢ controller) × IsGoneAt journal i)
+    → MatchOption answer (StopsNone journal) (IsFirstInRow (IsGoneAt journal))
+    → MatchOption answer (n ≢ controller → StopsNone journal) (λ i. (n ≢ controller) × IsFirstInRow (IsGoneAt journal) i)
 other_says n controller journal None ne h = λ other. h
 other_says n controller journal (Some i) ne h = (ne, h)
 
 -- ---- the controller's journal
+
+pub orders_decide : (p : Params) (beats : ℕ) (reading : ℕ → ℕ) (orders : List Order) (journal : List Entry) (answer : Option Uncommanded)
+    → AreSent p beats orders journal → DecidesStops p beats reading orders journal answer → DecidesController p beats reading orders journal answer
+orders_decide p beats reading orders journal None sent h = record { starts = sent; stops = h.stops; once = h.once }
+orders_decide p beats reading orders journal (Some (un.Foreign node i)) sent h = absurd h
+orders_decide p beats reading orders journal (Some (un.Start i)) sent h = absurd h
+orders_decide p beats reading orders journal (Some (un.Unsent j)) sent h = absurd h
+orders_decide p beats reading orders journal (Some (un.Stop i)) sent h = (sent, h)
+orders_decide p beats reading orders journal (Some (un.Unstopped j)) sent h = (sent, h)
 
 -- ---- and all
 
@@ -94,10 +124,10 @@ controller_decides k controller journal answer is at others h = by answer h
       others = λ n other ne at_it. none n other ne at_it;
     }
     by (Some (un.Foreign node i)) follows there none = absurd follows
-    by (Some (un.Start i)) follows there none = (journal, there, follows)
-    by (Some (un.Unsent j)) follows there none = (journal, there, follows)
-    by (Some (un.Stop i)) follows there none = (journal, there, follows)
-    by (Some (un.Unstopped j)) follows there none = (journal, there, follows)
+    by (Some (un.Start i)) follows there none = (none, journal, there, follows)
+    by (Some (un.Unsent j)) follows there none = (none, journal, there, follows)
+    by (Some (un.Stop i)) follows there none = (none, journal, there, follows)
+    by (Some (un.Unstopped j)) follows there none = (none, journal, there, follows)
 
 pub no_controller : (k : Kept) (controller : ℕ) → controller ≡ controller_of (links_of k.course.plan.params)
     → slice_get k.journals controller ≡ None → OthersStopNone controller k.journals → DecidesCommanded k None

@@ -4,9 +4,11 @@ pub mod Firsts
 pub mod Untold
 pub mod OnRows
 pub mod Starting
+pub mod Comparing
 pub mod Sameness
 pub mod Placing
 pub mod Stopping
+pub mod Missing
 pub mod Following
 pub mod Denying
 pub mod Mailing
@@ -14,3 +16,5 @@ pub mod Posting
 pub mod Streaming
 pub mod Delivering
 pub mod Refuting
+pub mod Earliest
+pub mod Oneness

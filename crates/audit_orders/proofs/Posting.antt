@@ -183,7 +183,7 @@ wrong_got c all front journal i post counts e low is told h wrong = by e.what re
         record {
           inside = low;
           stream = s;
-          before = (h s).first;
+          before = λ t. (h t).first;
           with_it = λ f. no_fit (subst (λ (o : Option Mail). FitsMail c.plan.params.delay e.stamp.beat note o)
               (sym (next_mail c all (front ++ take i journal) post counts s told h))
               (first_back c.plan.params.delay (all_sent_at c s all) (all_got_at c s (front ++ take i journal)) d
@@ -250,8 +250,8 @@ none_lost c got l half low n d at g = absurd (cc)
 
 pub lost_here : (c : Course) (got sent : StreamCounts) (front journal : List Entry) (i : ℕ) (e : Entry) → i < length journal
     → ((d : Entry) → slice_index_or journal i d ≡ e) → TellsSent c sent (front ++ take i journal)
-    → (IsGotOrLost c got sent e.stamp.beat e.what → ⊥) → IsLostIn c got front journal i
-lost_here c got sent front journal i e low is told wrong = by e.what refl wrong
+    → (IsGotOrLost c got sent e.stamp.beat e.what → ⊥) → NoneIsLost c got (front ++ take i journal) → IsLostIn c got front journal i
+lost_here c got sent front journal i e low is told wrong before = by e.what refl wrong
   where
     by : (w : What) → e.what ≡ w → (IsGotOrLost c got sent e.stamp.beat w → ⊥) → IsLostIn c got front journal i
     by (what.Sent link note) at no_excuse =
@@ -264,6 +264,7 @@ lost_here c got sent front journal i e low is told wrong = by e.what refl wrong
           sends = at;
           behind = at_least (λ (less : count_under s sent < count_under s got). no_excuse (inl less)) (told s);
           needed = λ lost. no_excuse (inr lost);
+          none = before;
         }
       where
         at_least : {a b c : ℕ} → (a < b → ⊥) → a ≡ c → b ≤ c

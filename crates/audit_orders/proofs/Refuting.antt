@@ -26,7 +26,7 @@ use Rattle.audit_orders.proofs.Delivering.{one_of, in_half, halves_of, sent_in_l
 
 -- ---- an entry at the wrong end
 
-at_one : (c : Course) (n : ℕ) (journal : List Entry) (i : ℕ) (e : Entry) → AreAtEnds c.plan.params n journal → slice_get journal i ≡ Some e
+pub at_one : (c : Course) (n : ℕ) (journal : List Entry) (i : ℕ) (e : Entry) → AreAtEnds c.plan.params n journal → slice_get journal i ≡ Some e
     → IsAtItsEnd c.plan.params n e.what
 at_one c n [] i e h at = absurd (cc)
 at_one c n (x ∷ xs) zero e h at =
@@ -36,7 +36,7 @@ at_one c n (x ∷ xs) (suc i) e h at = at_one c n xs i e h.1 at
 
 -- ---- the first of what was sent
 
-first_front : (most : ℕ) (ss gs hs : List (Dated Note)) → AreFirstSent most ss (gs ++ hs) → AreFirstSent most ss gs
+pub first_front : (most : ℕ) (ss gs hs : List (Dated Note)) → AreFirstSent most ss (gs ++ hs) → AreFirstSent most ss gs
 first_front most ss [] hs h = tt
 first_front most [] (g ∷ gs) hs h = absurd h
 first_front most (s ∷ ss) (g ∷ gs) hs h = (h.0, h.1, h.2, first_front most ss gs hs h.3)
@@ -133,10 +133,10 @@ first_in_stream k s carried all =
 -- ---- what stands behind an entry
 
 -- the entries of all journals from a place of one of them on
-abbrev rest_of : List (List Entry) → ℕ → List Entry → ℕ → List Entry
+abbrev pub rest_of : List (List Entry) → ℕ → List Entry → ℕ → List Entry
 rest_of journals n journal i = drop i journal ++ all_entries (drop (n + 1) journals)
 
-split_at : (journals : List (List Entry)) (n : ℕ) (journal : List Entry) (i : ℕ) → slice_get journals n ≡ Some journal
+pub split_at : (journals : List (List Entry)) (n : ℕ) (journal : List Entry) (i : ℕ) → slice_get journals n ≡ Some journal
     → entries_to journals n journal i ++ rest_of journals n journal i ≡ all_entries journals
 split_at journals n journal i here =
     let front = all_entries (take n journals) in
@@ -149,7 +149,7 @@ split_at journals n journal i here =
     ∙ sym (flat_map-append (λ (j : List Entry). j) (take (n + 1) journals) (drop (n + 1) journals))
     ∙ ap all_entries (take-append-drop (n + 1) journals)
 
-next_of : (journal : List Entry) (i : ℕ) (e : Entry) → slice_get journal i ≡ Some e → drop i journal ≡ e ∷ drop (i + 1) journal
+pub next_of : (journal : List Entry) (i : ℕ) (e : Entry) → slice_get journal i ≡ Some e → drop i journal ≡ e ∷ drop (i + 1) journal
 next_of [] i e at = absurd (cc)
 next_of (x ∷ xs) zero e at =
     let same : x ≡ e = cc in
@@ -159,13 +159,13 @@ next_of (x ∷ xs) (suc i) e at = next_of xs i e at ∙ ap (λ (n : ℕ). e ∷ 
     next : (n : ℕ) → suc (n + 1) ≡ suc n + 1
     next n = omega arith
 
-behind_them : (xs : List (Dated Note)) (d : Dated Note) (ys : List (Dated Note)) → slice_get (xs ++ d ∷ ys) (length xs) ≡ Some d
+pub behind_them : (xs : List (Dated Note)) (d : Dated Note) (ys : List (Dated Note)) → slice_get (xs ++ d ∷ ys) (length xs) ≡ Some d
 behind_them [] d ys = refl
 behind_them (x ∷ xs) d ys = behind_them xs d ys
 
 -- ---- the three places
 
-half_low : (back : Option ℕ) (beat : ℕ) → half_of back beat ≤ 1
+pub half_low : (back : Option ℕ) (beat : ℕ) → half_of back beat ≤ 1
 half_low None beat = omega arith
 half_low (Some back) beat = by (nat_le back beat)
   where
@@ -198,8 +198,10 @@ lost_denies k n i all h carried =
 
 pub uncarried_denies : UncarriedDenies
 uncarried_denies k (un.Stray node i) all h carried =
-    h.stray (at_one k.course node.0 h.journal i h.entry (carried.at_ends node.0 h.journal h.here) h.at)
-uncarried_denies k (un.Got node i) all h carried =
+    let wrong = h.here in
+    wrong.stray (at_one k.course node.0 wrong.journal i wrong.entry (carried.at_ends node.0 wrong.journal wrong.here) wrong.at)
+uncarried_denies k (un.Got node i) all f carried =
+    let h = f.1.here in
     h.with_it (first_front k.course.plan.params.delay (all_sent_at k.course h.stream (all_entries k.journals))
     (all_got_at k.course h.stream (entries_to k.journals node.0 h.journal (i + 1)))
     (all_got_at k.course h.stream (rest_of k.journals node.0 h.journal (i + 1)))
@@ -208,4 +210,4 @@ uncarried_denies k (un.Got node i) all h carried =
     ∙ flat_map-append (λ (e : Entry). got_at k.course h.stream e.stamp.beat e.what) (entries_to k.journals node.0 h.journal (i + 1))
     (rest_of k.journals node.0 h.journal (i + 1)))
     (first_in_stream k h.stream carried all)))
-uncarried_denies k (un.Lost node i) all h carried = lost_denies k node.0 i all h carried
+uncarried_denies k (un.Lost node i) all h carried = lost_denies k node.0 i all h.2.here carried

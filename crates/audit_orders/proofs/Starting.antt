@@ -1,12 +1,11 @@
 -- Starts that were sent, beside those that are wanted: beat for beat, and from the first that differs on.
-use Rattle.std.proofs.Common.{◌≡◌, ℕ, zero, suc, ◌+◌, ◌%◌, ◌<◌, ◌≤◌, Bool, true, false, nat_lt, cond, List, [], ◌∷◌, ◌++◌, map, length, take, drop, get_or, Option, Some, None, slice_get, refl, sym, ap, subst, ◌∙◌, ⊎_elim, inl, inr, append_assoc, append-nil, arith}
+use Rattle.std.proofs.Common.{◌≡◌, ℕ, zero, suc, ◌+◌, ◌%◌, ◌<◌, ◌≤◌, Bool, true, false, nat_lt, cond, List, [], ◌∷◌, ◌++◌, map, length, take, drop, Some, slice_get, refl, sym, ap, subst, ◌∙◌, ⊎_elim, inl, inr, append_assoc, append-nil, arith}
 use Rattle.std.specs.Prelude.{◌==◌, ◌⊎◌, slice_index_or}
 use Rattle.std.specs.List.{AllByRecursion}
 use Rattle.std.specs.List.Sorted.{IsNonDecreasingBy}
 use Rattle.std.proofs.lemmas.Bool.{eqb-true, eq-eqb, ltb-true, lt-ltb, ne_eqb, both_ways}
 use Rattle.std.proofs.lemmas.Grind.{flat_map-append}
-use Rattle.std.proofs.lemmas.List.{map-append, take-append-drop, take_all, drop_more, append_cancel_left}
-use Rattle.std.proofs.lemmas.Option.{slice_get_within}
+use Rattle.std.proofs.lemmas.List.{map-append, take-append-drop, take_all, append_cancel_left}
 use Rattle.tiger_base.specs.declared.tenancy.Ask.{Ask}
 use Rattle.slot_plan.specs.declared.params.Params.{Params}
 use Rattle.node_kit.specs.declared.course.Order.{Order}
@@ -18,11 +17,8 @@ use Rattle.run_facts.specs.Events.{Dated}
 use Rattle.run_facts.specs.Timed.{IsNotBelow, AreRising}
 use Rattle.run_facts.proofs.Rows.{all-append}
 use Rattle.audit_orders.specs.Commanding.{IsFrontOf, starts_due, IsWrongStart, IsUnsent, AreSent}
-use Rattle.audit_orders.specs.Starts.{wants_by, wanted_from, dated_of, sent_by, all_sent, IsNotNext, Meets, Leaves}
-use Rattle.audit_orders.specs.declared.starts.Meeting.{Meeting}
-use Rattle.audit_orders.specs.declared.starts.Meeting.TheVariants as meeting
+use Rattle.audit_orders.specs.Starts.{wants_by, wanted_from, dated_of, sent_by, all_sent, IsNotNext}
 use Rattle.audit_orders.specs.declared.starts.Wanted.{Wanted}
-use Rattle.audit_orders.proofs.Walks.{one_more}
 
 -- ---- beat for beat
 
@@ -232,6 +228,93 @@ pub other_met : (p : Params) (wanted : List Wanted) (next : ℕ) (front : List E
 other_met p wanted next front e sends met =
     sent_more p front e ∙ ap (λ (q : List (Dated Dispatch)). all_sent p front ++ q) sends ∙ append-nil (all_sent p front) ∙ met
 
+-- ---- what stands from an entry on is of its beat or of later ones
+
+later_on : (e : Entry) (es : List Entry) → AllByRecursion (IsNotBelow e) es → (b : ℕ) → b < e.stamp.beat
+    → AllByRecursion (λ (f : Entry). b < f.stamp.beat) es
+later_on e [] h b low = tt
+later_on e (f ∷ fs) h b low = let beat = h.0.beat in (omega (arith, beat, low), later_on e fs h.1 b low)
+
+pub behind_beat : (journal : List Entry) (i : ℕ) (e : Entry) (b : ℕ) → AreRising journal → i < length journal
+    → ((d : Entry) → slice_index_or journal i d ≡ e) → b < e.stamp.beat → AllByRecursion (λ (f : Entry). b < f.stamp.beat) (drop i journal)
+behind_beat [] i e b rises low is above = absurd (omega (arith, low))
+behind_beat (x ∷ xs) zero e b rises low is above =
+    let here : b < x.stamp.beat = subst (λ (y : Entry). b < y.stamp.beat) (sym (is x)) above in
+    (here, later_on x xs rises.0 b here)
+behind_beat (x ∷ xs) (suc i) e b rises low is above = behind_beat xs i e b rises.1 (omega (arith, low)) is above
+
+pub nothing_behind : (journal : List Entry) (i b : ℕ) → length journal ≤ i → AllByRecursion (λ (f : Entry). b < f.stamp.beat) (drop i journal)
+nothing_behind [] zero b h = tt
+nothing_behind [] (suc i) b h = tt
+nothing_behind (x ∷ xs) zero b h = absurd (omega (arith, h))
+nothing_behind (x ∷ xs) (suc i) b h = nothing_behind xs i b (omega (arith, h))
+
+-- entries behind a beat send nothing in it
+none_sent : (p : Params) (b : ℕ) (es : List Entry) → AllByRecursion (λ (e : Entry). b < e.stamp.beat) es → of_beat b (all_sent p es) ≡ []
+none_sent p b [] h = refl
+none_sent p b (e ∷ es) h =
+    of_both b (sent_by p e.stamp.beat e.what) (all_sent p es)
+    ∙ ap (λ (q : List Dispatch). q ++ of_beat b (all_sent p es))
+    (of_date e.stamp.beat b (start_of p e.what) false (ne_eqb e.stamp.beat b (λ same. let low = h.0 in omega (arith, same, low))))
+    ∙ none_sent p b es h.1
+
+-- ---- in the beats below one all that is due was sent
+
+above_next : (s : Dated Dispatch) (ws : List Wanted) (a : ℕ) → IsNotNext s ws → AreUp ws → a < s.beat
+    → AllByRecursion (λ (v : Wanted). a < v.beat) ws
+above_next s [] a h up low = tt
+above_next s (w ∷ ws) a h up low =
+    let le = h.0 in
+    let here : a < w.beat = omega (arith, le, low) in
+    (here, raised a w.beat ws here up.0)
+
+first_above : (ws : List Wanted) (n : ℕ) (w : Wanted) (a : ℕ) → slice_get ws n ≡ Some w → AreUp ws → a < w.beat
+    → AllByRecursion (λ (v : Wanted). a < v.beat) (drop n ws)
+first_above [] n w a e up low = absurd (cc)
+first_above (x ∷ xs) zero w a e up low =
+    let same : x ≡ w = cc in
+    let here : a < x.beat = subst (λ (y : Wanted). a < y.beat) (sym same) low in
+    (here, raised a x.beat xs here up.0)
+first_above (x ∷ xs) (suc n) w a e up low = first_above xs n w a e up.1 low
+
+still_later : (a b : ℕ) (es : List Entry) → a < b → AllByRecursion (λ (e : Entry). b < e.stamp.beat) es
+    → AllByRecursion (λ (e : Entry). a < e.stamp.beat) es
+still_later a b [] low h = tt
+still_later a b (e ∷ es) low h = let here = h.0 in (omega (arith, low, here), still_later a b es low h.1)
+
+own_beat : (beat : ℕ) (ds : List Dispatch) (s : Dated Dispatch) → date beat ds ≡ s ∷ [] → s.beat ≡ beat
+own_beat beat [] s e = absurd (cc)
+own_beat beat (d ∷ ds) s e =
+    let same : record { beat = beat; item = d } ≡ s = cc in
+    sym (ap (λ (x : Dated Dispatch). x.beat) same)
+
+-- what was sent in a beat is what was met of it, if all entries behind are of later beats
+sent_met : (p : Params) (b n i : ℕ) (all : List Wanted) (journal : List Entry) → all_sent p (take i journal) ≡ map dated_of (take n all)
+    → AllByRecursion (λ (e : Entry). b < e.stamp.beat) (drop i journal) → starts_sent p b journal ≡ of_beat b (map dated_of (take n all))
+sent_met p b n i all journal met later =
+    sent_group p b journal
+    ∙ ap (λ (q : List Entry). of_beat b (all_sent p q)) (sym (take-append-drop i journal))
+    ∙ ap (of_beat b) (flat_map-append (λ (x : Entry). sent_by p x.stamp.beat x.what) (take i journal) (drop i journal))
+    ∙ of_both b (all_sent p (take i journal)) (all_sent p (drop i journal))
+    ∙ ap (λ (q : List Dispatch). of_beat b (all_sent p (take i journal)) ++ q) (none_sent p b (drop i journal) later)
+    ∙ append-nil (of_beat b (all_sent p (take i journal)))
+    ∙ ap (of_beat b) met
+
+sent_due : (p : Params) (beats b n i : ℕ) (orders : List Order) (journal : List Entry)
+    → all_sent p (take i journal) ≡ map dated_of (take n (wanted_from p beats 0 orders))
+    → AllByRecursion (λ (e : Entry). b < e.stamp.beat) (drop i journal)
+    → AllByRecursion (λ (v : Wanted). b < v.beat) (drop n (wanted_from p beats 0 orders))
+    → starts_sent p b journal ≡ starts_due p beats orders b
+sent_due p beats b n i orders journal met later above =
+    let all = wanted_from p beats 0 orders in
+    sent_met p b n i all journal met later
+    ∙ sym (append-nil (of_beat b (map dated_of (take n all))))
+    ∙ ap (λ (q : List Dispatch). of_beat b (map dated_of (take n all)) ++ q) (sym (none_above b (drop n all) above))
+    ∙ sym (of_both b (map dated_of (take n all)) (map dated_of (drop n all)))
+    ∙ ap (of_beat b) (sym (map-append dated_of (take n all) (drop n all)))
+    ∙ ap (λ (q : List Wanted). of_beat b (map dated_of q)) (take-append-drop n all)
+    ∙ due_group p beats b 0 orders
+
 -- ---- the first of those wanted were sent, and then another start
 
 -- of each beat those sent are the first of those due
@@ -251,15 +334,21 @@ of_itself : (s : Dated Dispatch) → of_beat s.beat (s ∷ []) ≡ s.item ∷ []
 of_itself s = ap (λ (t : Bool). cond t (s.item ∷ []) []) (eq-eqb s.beat s.beat refl)
 
 pub surplus : (p : Params) (beats : ℕ) (orders : List Order) (n i : ℕ) (journal : List Entry) (e : Entry) (s : Dated Dispatch)
-    → IsNonDecreasingBy (λ (o : Order). o.beat) orders → i < length journal → take (i + 1) journal ≡ take i journal ++ e ∷ []
+    → IsNonDecreasingBy (λ (o : Order). o.beat) orders → AreRising journal → i < length journal
+    → ((d : Entry) → slice_index_or journal i d ≡ e) → take (i + 1) journal ≡ take i journal ++ e ∷ []
     → all_sent p (take i journal) ≡ map dated_of (take n (wanted_from p beats 0 orders)) → sent_by p e.stamp.beat e.what ≡ s ∷ []
     → IsNotNext s (drop n (wanted_from p beats 0 orders)) → IsWrongStart p beats orders journal i
-surplus p beats orders n i journal e s rises low more met sends other =
+surplus p beats orders n i journal e s rises rising low is more met sends other =
     let all = wanted_from p beats 0 orders in
     let due = front_due p beats s.beat orders n (take i journal) met in
+    let up = drop_up n all (wanted_up p beats 0 orders rises) in
+    let own = own_beat e.stamp.beat (start_of p e.what) s sends in
     record {
       inside = low;
       beat = s.beat;
+      lower_beats = λ a less.
+          sent_due p beats a n i orders journal met (behind_beat journal i e a rising low is (omega (arith, less, own)))
+          (above_next s (drop n all) a other up less);
       before = (of_beat s.beat (map dated_of (drop n all)), due);
       with_it = λ f.
           let with_e : starts_sent p s.beat (take (i + 1) journal) ≡ starts_sent p s.beat (take i journal) ++ s.item ∷ [] =
@@ -269,7 +358,7 @@ surplus p beats orders n i journal e s rises low more met sends other =
           ∙ of_both s.beat (all_sent p (take i journal)) (s ∷ [])
           ∙ ap (λ (q : List Dispatch). of_beat s.beat (all_sent p (take i journal)) ++ q) (of_itself s)
           ∙ ap (λ (q : List Dispatch). q ++ s.item ∷ []) (sym (sent_group p s.beat (take i journal))) in
-          not_next s (drop n all) f.0 other (drop_up n all (wanted_up p beats 0 orders rises))
+          not_next s (drop n all) f.0 other up
           (append_cancel_left (starts_sent p s.beat (take i journal)) (s.item ∷ f.0) (of_beat s.beat (map dated_of (drop n all)))
           (sym (append_assoc (starts_sent p s.beat (take i journal)) (s.item ∷ []) f.0)
           ∙ ap (λ (q : List Dispatch). q ++ f.0) (sym with_e) ∙ f.1 ∙ sym due));
@@ -384,20 +473,11 @@ ordered_group : (p : Params) (beats b : ℕ) (orders : List Order) → b < beats
 ordered_group p beats b orders low =
     due_group p beats b 0 orders ∙ ap (λ (t : Bool). cond t (starts_ordered p b orders) []) (lt-ltb b beats low)
 
--- entries behind a beat send nothing in it
-none_sent : (p : Params) (b : ℕ) (es : List Entry) → AllByRecursion (λ (e : Entry). b < e.stamp.beat) es → of_beat b (all_sent p es) ≡ []
-none_sent p b [] h = refl
-none_sent p b (e ∷ es) h =
-    of_both b (sent_by p e.stamp.beat e.what) (all_sent p es)
-    ∙ ap (λ (q : List Dispatch). q ++ of_beat b (all_sent p es))
-    (of_date e.stamp.beat b (start_of p e.what) false (ne_eqb e.stamp.beat b (λ same. let low = h.0 in omega (arith, same, low))))
-    ∙ none_sent p b es h.1
-
 pub lacking : (p : Params) (beats : ℕ) (orders : List Order) (n i : ℕ) (journal : List Entry) (w : Wanted)
-    → slice_get (wanted_from p beats 0 orders) n ≡ Some w
+    → IsNonDecreasingBy (λ (o : Order). o.beat) orders → slice_get (wanted_from p beats 0 orders) n ≡ Some w
     → all_sent p (take i journal) ≡ map dated_of (take n (wanted_from p beats 0 orders))
     → AllByRecursion (λ (e : Entry). w.beat < e.stamp.beat) (drop i journal) → IsUnsent p beats orders journal w.order
-lacking p beats orders n i journal w at met later =
+lacking p beats orders n i journal w rises at met later =
     let all = wanted_from p beats 0 orders in
     let h = placed p beats 0 orders n w at in
     let order_is = h.is in
@@ -407,19 +487,17 @@ lacking p beats orders n i journal w at met later =
     let later_here = subst (λ (x : ℕ). AllByRecursion (λ (e : Entry). x < e.stamp.beat) (drop i journal)) (sym h.beat) later in
     -- all that was sent in the beat is what was met
     let sent : starts_sent p b journal ≡ of_beat b (map dated_of (take n all)) =
-    sent_group p b journal
-    ∙ ap (λ (q : List Entry). of_beat b (all_sent p q)) (sym (take-append-drop i journal))
-    ∙ ap (of_beat b) (flat_map-append (λ (x : Entry). sent_by p x.stamp.beat x.what) (take i journal) (drop i journal))
-    ∙ of_both b (all_sent p (take i journal)) (all_sent p (drop i journal))
-    ∙ ap (λ (q : List Dispatch). of_beat b (all_sent p (take i journal)) ++ q) (none_sent p b (drop i journal) later_here)
-    ∙ append-nil (of_beat b (all_sent p (take i journal)))
-    ∙ ap (of_beat b) met in
+    sent_met p b n i all journal met later_here in
     let lower = front_of_beat b (wanted_from p beats 0 (take h.at orders)) (take n all) h.lower in
     let upper = front_of_beat b (take (suc n) all) (wanted_from p beats 0 (take (suc h.at) orders)) h.upper in
     record {
       order = h.order;
       here = subst (λ (k : ℕ). slice_get orders k ≡ Some h.order) (sym place) h.here;
       early = low;
+      lower_beats = λ a less.
+          let same = h.beat in
+          sent_due p beats a n i orders journal met (still_later a b (drop i journal) less later_here)
+          (first_above all n w a at (wanted_up p beats 0 orders rises) (omega (arith, less, same)));
       sent = (
         of_beat b (map dated_of (drop n all)),
         ap (λ (q : List Dispatch). q ++ of_beat b (map dated_of (drop n all))) sent
@@ -459,114 +537,3 @@ lacking p beats orders n i journal w at met later =
         ∙ ap (of_beat x) (map-append dated_of (take m vs) (v ∷ []))
         ∙ of_both x (map dated_of (take m vs)) (dated_of v ∷ [])
         ∙ ap (λ (t : Bool). of_beat x (map dated_of (take m vs)) ++ cond t ((dated_of v).item ∷ []) []) (eq-eqb v.beat x (sym same))
-
--- ---- what stands from an entry on is of its beat or of later ones
-
-later_on : (e : Entry) (es : List Entry) → AllByRecursion (IsNotBelow e) es → (b : ℕ) → b < e.stamp.beat
-    → AllByRecursion (λ (f : Entry). b < f.stamp.beat) es
-later_on e [] h b low = tt
-later_on e (f ∷ fs) h b low = let beat = h.0.beat in (omega (arith, beat, low), later_on e fs h.1 b low)
-
-pub behind_beat : (journal : List Entry) (i : ℕ) (e : Entry) (b : ℕ) → AreRising journal → i < length journal
-    → ((d : Entry) → slice_index_or journal i d ≡ e) → b < e.stamp.beat → AllByRecursion (λ (f : Entry). b < f.stamp.beat) (drop i journal)
-behind_beat [] i e b rises low is above = absurd (omega (arith, low))
-behind_beat (x ∷ xs) zero e b rises low is above =
-    let here : b < x.stamp.beat = subst (λ (y : Entry). b < y.stamp.beat) (sym (is x)) above in
-    (here, later_on x xs rises.0 b here)
-behind_beat (x ∷ xs) (suc i) e b rises low is above = behind_beat xs i e b rises.1 (omega (arith, low)) is above
-
-pub nothing_behind : (journal : List Entry) (i b : ℕ) → length journal ≤ i → AllByRecursion (λ (f : Entry). b < f.stamp.beat) (drop i journal)
-nothing_behind [] zero b h = tt
-nothing_behind [] (suc i) b h = tt
-nothing_behind (x ∷ xs) zero b h = absurd (omega (arith, h))
-nothing_behind (x ∷ xs) (suc i) b h = nothing_behind xs i b (omega (arith, h))
-
--- ---- the walk
-
--- a turn of the loop that lists what is wanted, and its end
-pub wanted_next : (p : Params) (beats j : ℕ) (orders : List Order) (d : Order) (old new all : List Wanted) → j < length orders
-    → new ≡ old ++ wants_by p beats j (get_or orders j d).beat (get_or orders j d).what
-    → old ++ wanted_from p beats j (drop j orders) ≡ all → new ++ wanted_from p beats (j + 1) (drop (j + 1) orders) ≡ all
-wanted_next p beats j orders d old new all low pushed before =
-    let o = get_or orders j d in
-    let here = wants_by p beats j o.beat o.what in
-    let rest = wanted_from p beats (j + 1) (drop (j + 1) orders) in
-    ap (λ (q : List Wanted). q ++ rest) pushed ∙ append_assoc old here rest
-    ∙ ap (λ (q : List Order). old ++ wanted_from p beats j q) (sym (drop_more orders j d low)) ∙ before
-
-pub wanted_end : (p : Params) (beats j : ℕ) (orders : List Order) (old all : List Wanted) → length orders ≤ j
-    → old ++ wanted_from p beats j (drop j orders) ≡ all → old ≡ all
-wanted_end p beats j orders old all over before =
-    sym (append-nil old) ∙ ap (λ (q : List Order). old ++ wanted_from p beats j q) (sym (drop_all j orders over)) ∙ before
-  where
-    drop_all : (k : ℕ) (xs : List Order) → length xs ≤ k → drop k xs ≡ []
-    drop_all zero [] h = refl
-    drop_all zero (x ∷ xs) h = absurd (omega (arith, h))
-    drop_all (suc k) [] h = refl
-    drop_all (suc k) (x ∷ xs) h = drop_all k xs (omega (arith, h))
-
--- a turn of the walk
-pub still_met : (p : Params) (wanted : List Wanted) (next i : ℕ) (journal : List Entry) (e : Entry) (m : Meeting) → i < length journal
-    → ((d : Entry) → slice_index_or journal i d ≡ e) → all_sent p (take i journal) ≡ map dated_of (take next wanted)
-    → Meets wanted next e.stamp.beat (sent_by p e.stamp.beat e.what) m → m ≡ meeting.Other
-    → all_sent p (take (i + 1) journal) ≡ map dated_of (take next wanted)
-still_met p wanted next i journal e m low at met meets is =
-    ap (all_sent p) (one_more journal i e low at)
-    ∙ other_met p wanted next (take i journal) e (subst (Meets wanted next e.stamp.beat (sent_by p e.stamp.beat e.what)) is meets) met
-
-pub met_more : (p : Params) (wanted : List Wanted) (next i : ℕ) (journal : List Entry) (e : Entry) (m : Meeting) → i < length journal
-    → ((d : Entry) → slice_index_or journal i d ≡ e) → all_sent p (take i journal) ≡ map dated_of (take next wanted)
-    → Meets wanted next e.stamp.beat (sent_by p e.stamp.beat e.what) m → m ≡ meeting.Next
-    → (all_sent p (take (i + 1) journal) ≡ map dated_of (take (next + 1) wanted)) × (next + 1 ≤ length wanted)
-met_more p wanted next i journal e m low at met meets is =
-    let f = subst (Meets wanted next e.stamp.beat (sent_by p e.stamp.beat e.what)) is meets in
-    let inside = slice_get_within wanted next f.0 f.1 in (
-      ap (all_sent p) (one_more journal i e low at) ∙ next_met p wanted next (take i journal) e f.0 f.1 f.2 met,
-      omega (arith, inside),
-    )
-
--- and where it stops
-pub surplus_here : (p : Params) (wanted : List Wanted) (next i : ℕ) (journal : List Entry) (e : Entry) (m : Meeting) → i < length journal
-    → ((d : Entry) → slice_index_or journal i d ≡ e) → all_sent p (take i journal) ≡ map dated_of (take next wanted)
-    → Meets wanted next e.stamp.beat (sent_by p e.stamp.beat e.what) m → m ≡ meeting.Surplus
-    → (beats : ℕ) (orders : List Order) → wanted ≡ wanted_from p beats 0 orders → IsNonDecreasingBy (λ (o : Order). o.beat) orders
-    → IsWrongStart p beats orders journal i
-surplus_here p wanted next i journal e m low at met meets is beats orders all rises =
-    let f = subst (Meets wanted next e.stamp.beat (sent_by p e.stamp.beat e.what)) is meets in
-    surplus p beats orders next i journal e f.0 rises low (one_more journal i e low at)
-    (subst (λ (ws : List Wanted). all_sent p (take i journal) ≡ map dated_of (take next ws)) all met) f.1
-    (subst (λ (ws : List Wanted). IsNotNext f.0 (drop next ws)) all f.2)
-
--- the place of the order of a start that is wanted
-lacking_here : (p : Params) (wanted : List Wanted) (next i j : ℕ) (journal : List Entry) (w : Wanted) → slice_get wanted next ≡ Some w
-    → w.order ≡ j → all_sent p (take i journal) ≡ map dated_of (take next wanted)
-    → AllByRecursion (λ (e : Entry). w.beat < e.stamp.beat) (drop i journal)
-    → (beats : ℕ) (orders : List Order) → wanted ≡ wanted_from p beats 0 orders → IsUnsent p beats orders journal j
-lacking_here p wanted next i j journal w at is met later beats orders all =
-    subst (λ (k : ℕ). IsUnsent p beats orders journal k) is
-    (lacking p beats orders next i journal w (subst (λ (ws : List Wanted). slice_get ws next ≡ Some w) all at)
-    (subst (λ (ws : List Wanted). all_sent p (take i journal) ≡ map dated_of (take next ws)) all met) later)
-
-pub late_here : (p : Params) (wanted : List Wanted) (next i j : ℕ) (journal : List Entry) (e : Entry) (m : Meeting) → AreRising journal
-    → i < length journal → ((d : Entry) → slice_index_or journal i d ≡ e) → all_sent p (take i journal) ≡ map dated_of (take next wanted)
-    → Meets wanted next e.stamp.beat (sent_by p e.stamp.beat e.what) m → m ≡ meeting.Late j
-    → (beats : ℕ) (orders : List Order) → wanted ≡ wanted_from p beats 0 orders → IsUnsent p beats orders journal j
-late_here p wanted next i j journal e m rises low at met meets is beats orders all =
-    let f = subst (Meets wanted next e.stamp.beat (sent_by p e.stamp.beat e.what)) is meets in
-    lacking_here p wanted next i j journal f.0 f.1 f.2 met (behind_beat journal i e f.0.beat rises low at f.3) beats orders all
-
-pub end_here : (p : Params) (wanted : List Wanted) (next i : ℕ) (journal : List Entry) (answer : Option ℕ) → length journal ≤ i
-    → all_sent p (take i journal) ≡ map dated_of (take next wanted) → Leaves wanted next answer → (j : ℕ) → answer ≡ Some j
-    → (beats : ℕ) (orders : List Order) → wanted ≡ wanted_from p beats 0 orders → IsUnsent p beats orders journal j
-end_here p wanted next i journal answer over met leaves j is beats orders all =
-    let f = subst (Leaves wanted next) is leaves in
-    lacking_here p wanted next i j journal f.0 f.1 f.2 met (nothing_behind journal i f.0.beat over) beats orders all
-
-pub all_here : (p : Params) (wanted : List Wanted) (next i : ℕ) (journal : List Entry) (answer : Option ℕ) → length journal ≤ i
-    → all_sent p (take i journal) ≡ map dated_of (take next wanted) → Leaves wanted next answer → answer ≡ None
-    → (beats : ℕ) (orders : List Order) → wanted ≡ wanted_from p beats 0 orders → AreSent p beats orders journal
-all_here p wanted next i journal answer over met leaves is beats orders all =
-    let f = subst (Leaves wanted next) is leaves in
-    all_met p beats orders next journal (subst (λ (ws : List Wanted). length ws ≤ next) all f)
-    (subst (λ (ws : List Wanted). all_sent p journal ≡ map dated_of (take next ws)) all
-    (ap (all_sent p) (sym (take_all i journal over)) ∙ met))

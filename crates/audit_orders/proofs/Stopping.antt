@@ -20,7 +20,7 @@ use Rattle.run_facts.specs.Timed.{AreRising}
 use Rattle.run_model.proofs.Reflects.{and_left, and_right}
 use Rattle.audit_frame.specs.Tables.{MarkNumbers, mark_under, has_pair}
 use Rattle.audit_orders.specs.Commanding.{IsWrongStop, IsStopMissing, AreStopped, clock_of}
-use Rattle.audit_orders.specs.Stops.{KnownPlaces, place_under, TellsPlaces, by_then, TellsFinishes, is_mark, is_marked_before, is_marked_by, mark_count, HasStop, TellsGone, mark_after, may_by, wrong_by, missed_stop, missed_by}
+use Rattle.audit_orders.specs.Stops.{KnownPlaces, place_under, TellsPlaces, by_then, TellsFinishes, is_mark, is_marked_before, is_marked_by, mark_count, HasStop, TellsGone, mark_after, may_by, wrong_by, missed_stop, missed_by, NoneIsMissed, IsFirstMissed}
 use Rattle.audit_orders.specs.declared.tables.Known.{Known}
 use Rattle.audit_orders.proofs.Placing.{known_by}
 
@@ -171,19 +171,19 @@ none_in_time c finishes places gone e v beat at =
 -- ---- what the tables decide
 
 -- whether a stop that is ordered may take effect, in the words of the journal
-abbrev may_take : Course → List Order → List Entry → ℕ → ℕ → Bool
+abbrev pub may_take : Course → List Order → List Entry → ℕ → ℕ → Bool
 may_take c orders journal v beat =
     nat_lt beat c.beats
     && (stop_ordered orders v beat && not (is_over c.plan.params (clock_of c beat) (place_known c.plan.params journal v beat)))
 
-over_is : (c : Course) (places : KnownPlaces) (journal : List Entry) (v beat : ℕ) → TellsPlaces c.plan.params places journal → AreRising journal
+pub over_is : (c : Course) (places : KnownPlaces) (journal : List Entry) (v beat : ℕ) → TellsPlaces c.plan.params places journal → AreRising journal
     → is_over c.plan.params (clock_of c beat) (by_then beat (place_under v places))
     ≡ is_over c.plan.params (clock_of c beat) (place_known c.plan.params journal v beat)
 over_is c places journal v beat tells rises =
     ap (λ (o : Option Known). is_over c.plan.params (clock_of c beat) (by_then beat o)) (tells v)
     ∙ ap (is_over c.plan.params (clock_of c beat)) (sym (known_by c.plan.params v beat journal rises))
 
-may_is : (c : Course) (finishes : List (ℕ × ℕ)) (places : KnownPlaces) (orders : List Order) (journal : List Entry) (v beat : ℕ)
+pub may_is : (c : Course) (finishes : List (ℕ × ℕ)) (places : KnownPlaces) (orders : List Order) (journal : List Entry) (v beat : ℕ)
     → TellsFinishes finishes orders → TellsPlaces c.plan.params places journal → AreRising journal
     → may_by c finishes places v beat ≡ may_take c orders journal v beat
 may_is c finishes places orders journal v beat tells there rises =
@@ -248,7 +248,7 @@ of_finish c places gone beat (kind.Finish v) e = (v, refl, e)
 of_finish c places gone beat (kind.Begin ask) e = absurd (false≢true e)
 
 -- an order that is there was given
-is_ordered : (orders : List Order) (j v : ℕ) (o : Order) → slice_get orders j ≡ Some o → is_finish_of v o.what ≡ true → stop_ordered orders v o.beat ≡ true
+pub is_ordered : (orders : List Order) (j v : ℕ) (o : Order) → slice_get orders j ≡ Some o → is_finish_of v o.what ≡ true → stop_ordered orders v o.beat ≡ true
 unfolding stop_ordered
 is_ordered [] j v o at is = absurd (cc)
 is_ordered (x ∷ xs) zero v o at is =
@@ -280,7 +280,7 @@ not_in beat (Some b) e = by (b == beat) refl
     by true h = let same = eqb-true b beat h in absurd (both_ways (nat_le b beat) e (le-leb b beat (omega (arith, same))))
     by false h = refl
 
-all_true : (x a g o : Bool) → x ≡ true → a ≡ true → g ≡ false → o ≡ false → (x && (a && (not g && not o))) ≡ true
+pub all_true : (x a g o : Bool) → x ≡ true → a ≡ true → g ≡ false → o ≡ false → (x && (a && (not g && not o))) ≡ true
 all_true true true false false e f h k = refl
 all_true false a g o e f h k = absurd (false≢true e)
 all_true true false g o e f h k = absurd (false≢true f)
@@ -310,7 +310,7 @@ missed_here c places gone orders journal j o known rises written at missed =
       missing = (written v.0).in_beat o.beat ∙ not_in o.beat (mark_under v.0 gone) parts.2;
     }
 
-true_parts : (x a g o : Bool) → (x && (a && (not g && not o))) ≡ true → (x ≡ true) × (a ≡ true) × (g ≡ false) × (o ≡ false)
+pub true_parts : (x a g o : Bool) → (x && (a && (not g && not o))) ≡ true → (x ≡ true) × (a ≡ true) × (g ≡ false) × (o ≡ false)
 true_parts true true false false e = (refl, refl, refl, refl)
 true_parts false a g o e = absurd (false≢true e)
 true_parts true false g o e = absurd (false≢true e)
@@ -318,10 +318,6 @@ true_parts true true true o e = absurd (false≢true e)
 true_parts true true false true e = absurd (false≢true e)
 
 -- ---- none is wrong and none is missing
-
--- of the orders so far none has a stop that is missed
-abbrev pub NoneIsMissed : Course → KnownPlaces → MarkNumbers → List Order → Type 0
-NoneIsMissed c places gone orders = (v beat : ℕ) → stop_ordered orders v beat ≡ true → missed_stop c places gone v beat ≡ false
 
 pub no_order : (c : Course) (places : KnownPlaces) (gone : MarkNumbers) → NoneIsMissed c places gone []
 unfolding stop_ordered
@@ -353,6 +349,13 @@ none_more c places gone front o here h v beat e = ⊎_elim
 not_true : (b : Bool) → (b ≡ true → ⊥) → b ≡ false
 not_true true h = absurd (h refl)
 not_true false h = refl
+
+-- one that takes effect and is not missed is marked
+pub marked_by : (x o m : Bool) → x ≡ true → o ≡ false → (x && (not o && not m)) ≡ false → m ≡ true
+marked_by true false true e f h = refl
+marked_by true false false e f h = absurd (false≢true (sym h))
+marked_by true true m e f h = absurd (false≢true (sym f))
+marked_by false o m e f h = absurd (false≢true e)
 
 pub all_stopped : (c : Course) (finishes : List (ℕ × ℕ)) (places : KnownPlaces) (gone : MarkNumbers) (orders : List Order) (journal : List Entry)
     → TellsFinishes finishes orders → TellsPlaces c.plan.params places journal → AreRising journal → TellsGone gone journal
@@ -389,12 +392,6 @@ all_stopped c finishes places gone orders journal tells known rises written righ
   not_less : (b beat : ℕ) → b ≡ beat → nat_lt b beat ≡ false
   not_less b beat same = not_true (nat_lt b beat) (λ t. let low = ltb-true b beat t in absurd (omega (arith, same, low)))
 
-  marked_by : (x o m : Bool) → x ≡ true → o ≡ false → (x && (not o && not m)) ≡ false → m ≡ true
-  marked_by true false true e f h = refl
-  marked_by true false false e f h = absurd (false≢true (sym h))
-  marked_by true true m e f h = absurd (false≢true (sym f))
-  marked_by false o m e f h = absurd (false≢true e)
-
   few : (mark : Option ℕ) (n : ℕ) → n ≡ mark_count mark → n ≤ 1
   few None n e = omega (arith, e)
   few (Some b) n e = omega (arith, e)
@@ -425,16 +422,8 @@ order_there orders i o low is = slice_get-get_or orders i o low ∙ ap (λ (x : 
 
 -- what the look at the orders answers
 abbrev pub AnswersMissed : Course → KnownPlaces → MarkNumbers → List Order → Option ℕ → Type 0
-AnswersMissed c places gone orders answer = MatchOption answer (NoneIsMissed c places gone orders)
-    (λ j. (o : Order) × (slice_get orders j ≡ Some o) × (missed_by c places gone o.beat o.what ≡ true))
-
-pub missed_found : (c : Course) (places : KnownPlaces) (gone : MarkNumbers) (orders : List Order) (journal : List Entry) (i : ℕ) (answer : Option ℕ)
-    → TellsPlaces c.plan.params places journal → AreRising journal → length journal ≤ i → TellsGone gone (take i journal)
-    → AnswersMissed c places gone orders answer → (j : ℕ) → answer ≡ Some j → IsStopMissing c.plan.params c.beats (clock_of c) orders journal j
-missed_found c places gone orders journal i answer known rises over written says j is =
-    let f = subst (AnswersMissed c places gone orders) is says in
-    missed_here c places gone orders journal j f.0 known rises
-    (subst (λ (q : List Entry). TellsGone gone q) (take_all i journal over) written) f.1 f.2
+AnswersMissed c places gone orders answer =
+    MatchOption answer (NoneIsMissed c places gone orders) (IsFirstMissed c places gone orders)
 
 pub none_found : (c : Course) (finishes : List (ℕ × ℕ)) (places : KnownPlaces) (gone : MarkNumbers) (orders : List Order) (journal : List Entry)
     (i : ℕ) (answer : Option ℕ) → TellsFinishes finishes orders → TellsPlaces c.plan.params places journal → AreRising journal

@@ -17,6 +17,7 @@ use Rattle.node_kit.specs.Links.{links_of, ends_of}
 use Rattle.run_facts.specs.Events.{Dated}
 use Rattle.run_facts.specs.Carried.{MayBeLost, IsAtItsEnd}
 use Rattle.run_model.specs.Runs.{IsCarriedRun}
+use Rattle.audit_orders.specs.Earliest.{IsFirstEntry, IsAtNoEntry}
 use Rattle.audit_orders.specs.declared.carrying.Uncarried.{Uncarried}
 use Rattle.audit_orders.specs.declared.carrying.Uncarried.TheVariants as un
 use Rattle.audit_orders.specs.declared.mail.Mail.{Mail}
@@ -136,14 +137,23 @@ AreAtEnds p n journal = AllByRecursion (λ e. IsAtItsEnd p n e.what) journal
 abbrev pub AllAtEnds : Params → List (List Entry) → Type 0
 AllAtEnds p journals = (n : ℕ) (journal : List Entry) → slice_get journals n ≡ Some journal → AreAtEnds p n journal
 
--- the same flaws of one journal, behind other entries
+-- behind so many messages each may be lost
+abbrev pub MayBeLostBehind : Course → ℕ → ℕ → List (Dated Note) → Type 0
+MayBeLostBehind c l got sent = (n : ℕ) (d : Dated Note) → slice_get sent n ≡ Some d → got ≤ n → MayBeLostOn c l d.beat
+
+abbrev pub NoneIsLost : Course → StreamCounts → List Entry → Type 0
+NoneIsLost c got entries =
+    (l h : ℕ) → h ≤ 1 → MayBeLostBehind c l (count_under (2 * l + h) got) (all_sent_at c (2 * l + h) entries)
+
+-- the same flaws of one journal, behind other entries, none of which has such a flaw
 abbrev pub IsStrayIn : Params → ℕ → List Entry → ℕ → Type 0
-IsStrayIn p n journal i = (e : Entry) × (slice_get journal i ≡ Some e) × (IsAtItsEnd p n e.what → ⊥)
+IsStrayIn p n journal i =
+    (e : Entry) × (slice_get journal i ≡ Some e) × (IsAtItsEnd p n e.what → ⊥) × AreAtEnds p n (take i journal)
 
 pub record IsWrongIn (c : Course) (all front journal : List Entry) (i : ℕ) : Type 0 where
   pub inside : i < length journal
   pub stream : ℕ
-  pub before : AreFirstSent c.plan.params.delay (all_sent_at c stream all) (all_got_at c stream (front ++ take i journal))
+  pub before : (s : ℕ) → AreFirstSent c.plan.params.delay (all_sent_at c s all) (all_got_at c s (front ++ take i journal))
   pub with_it : AreFirstSent c.plan.params.delay (all_sent_at c stream all) (all_got_at c stream (front ++ take (i + 1) journal)) → ⊥
 
 pub record IsLostIn (c : Course) (got : StreamCounts) (front journal : List Entry) (i : ℕ) : Type 0 where
@@ -155,12 +165,17 @@ pub record IsLostIn (c : Course) (got : StreamCounts) (front journal : List Entr
   pub behind : count_under (stream_of c link.0 entry.stamp.beat) got
       ≤ length (all_sent_at c (stream_of c link.0 entry.stamp.beat) (front ++ take i journal))
   pub needed : MayBeLostOn c link.0 entry.stamp.beat → ⊥
+  pub none : NoneIsLost c got (front ++ take i journal)
 
--- a kept run is not carried here
+-- A kept run is not carried first here: an entry is the first that does not stand at its end of its link; or all do, and it
+-- is the first in which the wrong message was got; or none is, and it is the first whose message was lost and may not be.
 abbrev pub IsUncarriedAt : Course → List (List Entry) → Uncarried → Type 0
-IsUncarriedAt c journals (un.Stray node i) = IsStrayEntry c journals node.0 i
-IsUncarriedAt c journals (un.Got node i) = IsWrongGot c journals node.0 i
-IsUncarriedAt c journals (un.Lost node i) = IsLost c journals node.0 i
+IsUncarriedAt c journals (un.Stray node i) = IsFirstEntry (IsStrayEntry c journals) node.0 i
+IsUncarriedAt c journals (un.Got node i) =
+    IsAtNoEntry (IsStrayEntry c journals) × IsFirstEntry (IsWrongGot c journals) node.0 i
+IsUncarriedAt c journals (un.Lost node i) =
+    IsAtNoEntry (IsStrayEntry c journals) × IsAtNoEntry (IsWrongGot c journals)
+    × IsFirstEntry (IsLost c journals) node.0 i
 
 -- an answer decides whether a kept run is carried
 abbrev pub DecidesCarried : Kept → Option Uncarried → Type 0
@@ -188,14 +203,6 @@ pub record IsGotOf (c : Course) (all : List Entry) (counts : StreamCounts) (entr
 
 abbrev pub TellsGot : Course → List Entry → StreamCounts → List Entry → Type 0
 TellsGot c all counts entries = (s : ℕ) → IsGotOf c all counts entries s
-
--- behind so many messages each may be lost
-abbrev pub MayBeLostBehind : Course → ℕ → ℕ → List (Dated Note) → Type 0
-MayBeLostBehind c l got sent = (n : ℕ) (d : Dated Note) → slice_get sent n ≡ Some d → got ≤ n → MayBeLostOn c l d.beat
-
-abbrev pub NoneIsLost : Course → StreamCounts → List Entry → Type 0
-NoneIsLost c got entries =
-    (l h : ℕ) → h ≤ 1 → MayBeLostBehind c l (count_under (2 * l + h) got) (all_sent_at c (2 * l + h) entries)
 
 -- ---- tests of an entry
 

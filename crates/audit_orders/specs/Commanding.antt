@@ -13,6 +13,7 @@ use Rattle.node_kit.specs.declared.journal.What.TheVariants as what
 use Rattle.node_kit.specs.Courses.{reading_of}
 use Rattle.node_kit.specs.Links.{links_of, controller_of}
 use Rattle.run_facts.specs.Commanded.{Dispatch, starts_sent, starts_ordered, is_gone, is_gone_of, gone_in, is_stopped, StopsNone, IsCommanded, AreCommanded}
+use Rattle.audit_orders.specs.Earliest.{IsFirstEntry, IsFirstInRow}
 use Rattle.audit_orders.specs.declared.commanding.Uncommanded.{Uncommanded}
 use Rattle.audit_orders.specs.declared.commanding.Uncommanded.TheVariants as un
 
@@ -26,19 +27,27 @@ IsFrontOf {X} front all = (rest : List X) × (front ++ rest ≡ all)
 abbrev pub starts_due : Params → ℕ → List Order → ℕ → List Dispatch
 starts_due p beats orders beat = if nat_lt beat beats then starts_ordered p beat orders else []
 
--- of some beat, the starts that were sent before an entry are the first of those that are due, and with it they are not
+-- in each beat below one the controller sends the starts that are due
+abbrev pub AreSentBelow : Params → ℕ → List Order → List Entry → ℕ → Type 0
+AreSentBelow p beats orders journal b =
+    (a : ℕ) → a < b → starts_sent p a journal ≡ starts_due p beats orders a
+
+-- of the first beat in which it does not, the starts that were sent before an entry are the first of those that are due,
+-- and with it they are not
 pub record IsWrongStart (p : Params) (beats : ℕ) (orders : List Order) (journal : List Entry) (i : ℕ) : Type 0 where
   pub inside : i < length journal
   pub beat : ℕ
+  pub lower_beats : AreSentBelow p beats orders journal beat
   pub before : IsFrontOf (starts_sent p beat (take i journal)) (starts_due p beats orders beat)
   pub with_it : IsFrontOf (starts_sent p beat (take (i + 1) journal)) (starts_due p beats orders beat) → ⊥
 
--- the starts sent in an order's beat are the first of those that are due; those of the orders before it are among them,
--- and its own are not, or not both
+-- the starts sent in an order's beat, the first in which they are not those that are due, are the first of these; those of
+-- the orders before it are among them, and its own are not, or not both
 pub record IsUnsent (p : Params) (beats : ℕ) (orders : List Order) (journal : List Entry) (j : ℕ) : Type 0 where
   pub order : Order
   pub here : slice_get orders j ≡ Some order
   pub early : order.beat < beats
+  pub lower_beats : AreSentBelow p beats orders journal order.beat
   pub sent : IsFrontOf (starts_sent p order.beat journal) (starts_due p beats orders order.beat)
   pub lower : IsFrontOf (starts_ordered p order.beat (take j orders)) (starts_sent p order.beat journal)
   pub lacks : IsFrontOf (starts_ordered p order.beat (take (j + 1) orders)) (starts_sent p order.beat journal) → ⊥
@@ -83,11 +92,16 @@ pub record AreStopped (p : Params) (beats : ℕ) (reading : ℕ → ℕ) (orders
   pub stops : (v beat : ℕ) → gone_in journal v beat ≡ takes_effect p beats reading orders journal v beat
   pub once : (v : ℕ) → length (filter (λ e. is_gone_of v e.what) journal) ≤ 1
 
+-- no entry stops an instance wrongly, and an order is the first whose stop is missing
+pub record IsFirstUnstopped (p : Params) (beats : ℕ) (reading : ℕ → ℕ) (orders : List Order) (journal : List Entry) (j : ℕ) : Type 0 where
+  pub none_wrong : (i : ℕ) → IsWrongStop p beats reading orders journal i → ⊥
+  pub first : IsFirstInRow (IsStopMissing p beats reading orders journal) j
+
 -- an answer decides whether they are
 abbrev pub DecidesStops : Params → ℕ → (ℕ → ℕ) → List Order → List Entry → Option Uncommanded → Type 0
 DecidesStops p beats reading orders journal None = AreStopped p beats reading orders journal
-DecidesStops p beats reading orders journal (Some (un.Stop i)) = IsWrongStop p beats reading orders journal i
-DecidesStops p beats reading orders journal (Some (un.Unstopped j)) = IsStopMissing p beats reading orders journal j
+DecidesStops p beats reading orders journal (Some (un.Stop i)) = IsFirstInRow (IsWrongStop p beats reading orders journal) i
+DecidesStops p beats reading orders journal (Some (un.Unstopped j)) = IsFirstUnstopped p beats reading orders journal j
 DecidesStops p beats reading orders journal (Some other) = ⊥
 
 -- ---- all of them
@@ -103,8 +117,9 @@ pub record IsForeignStop (controller : ℕ) (journals : List (List Entry)) (n i 
   pub here : slice_get journals n ≡ Some journal
   pub gone : IsGoneAt journal i
 
+-- and it is the first
 abbrev pub IsForeignAt : ℕ → List (List Entry) → Uncommanded → Type 0
-IsForeignAt controller journals (un.Foreign node i) = IsForeignStop controller journals node.0 i
+IsForeignAt controller journals (un.Foreign node i) = IsFirstEntry (IsForeignStop controller journals) node.0 i
 IsForeignAt controller journals other = ⊥
 
 -- and no entry of such a node does
@@ -112,25 +127,28 @@ abbrev pub OthersStopNone : ℕ → List (List Entry) → Type 0
 OthersStopNone controller journals =
     (n : ℕ) (journal : List Entry) → n ≢ controller → slice_get journals n ≡ Some journal → StopsNone journal
 
--- the controller's journal does not follow the orders here
+-- the controller's journal does not follow the orders first here: in its starts, and if those are right, in its stops
 abbrev pub BreaksOrders : Params → ℕ → (ℕ → ℕ) → List Order → List Entry → Uncommanded → Type 0
 BreaksOrders p beats reading orders journal (un.Foreign node i) = ⊥
 BreaksOrders p beats reading orders journal (un.Start i) = IsWrongStart p beats orders journal i
 BreaksOrders p beats reading orders journal (un.Unsent j) = IsUnsent p beats orders journal j
-BreaksOrders p beats reading orders journal (un.Stop i) = IsWrongStop p beats reading orders journal i
-BreaksOrders p beats reading orders journal (un.Unstopped j) = IsStopMissing p beats reading orders journal j
+BreaksOrders p beats reading orders journal (un.Stop i) =
+    AreSent p beats orders journal × IsFirstInRow (IsWrongStop p beats reading orders journal) i
+BreaksOrders p beats reading orders journal (un.Unstopped j) =
+    AreSent p beats orders journal × IsFirstUnstopped p beats reading orders journal j
 
 -- an answer decides whether it follows them
 abbrev pub DecidesController : Params → ℕ → (ℕ → ℕ) → List Order → List Entry → Option Uncommanded → Type 0
 DecidesController p beats reading orders journal None = IsCommanded p beats reading orders journal
 DecidesController p beats reading orders journal (Some place) = BreaksOrders p beats reading orders journal place
 
--- journals do not follow the orders here
+-- journals do not follow the orders first here: at a stop by another node, and if there is none, in the controller's journal
 abbrev pub IsUncommandedAt : Params → ℕ → (ℕ → ℕ) → List Order → List (List Entry) → Uncommanded → Type 0
 IsUncommandedAt p beats reading orders journals (un.Foreign node i) =
-    IsForeignStop (controller_of (links_of p)) journals node.0 i
+    IsFirstEntry (IsForeignStop (controller_of (links_of p)) journals) node.0 i
 IsUncommandedAt p beats reading orders journals place =
-    (journal : List Entry) × (slice_get journals (controller_of (links_of p)) ≡ Some journal)
+    OthersStopNone (controller_of (links_of p)) journals
+    × (journal : List Entry) × (slice_get journals (controller_of (links_of p)) ≡ Some journal)
     × BreaksOrders p beats reading orders journal place
 
 -- what the controller's clock shows in a beat of a course

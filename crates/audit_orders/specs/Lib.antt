@@ -1,3 +1,4 @@
+pub mod Earliest
 pub mod Breaches
 pub mod Returning
 pub mod Timing

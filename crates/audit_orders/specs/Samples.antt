@@ -6,7 +6,7 @@ use Rattle.node_kit.specs.declared.course.OrderKind.TheVariants as kind
 use Rattle.node_kit.specs.declared.journal.Entry.{Entry}
 use Rattle.node_kit.specs.declared.journal.What.TheVariants as what
 use Rattle.run_facts.specs.Order.{Noted}
-use Rattle.run_model.specs.Samples.{at_reading, ask}
+use Rattle.run_model.specs.Samples.{at, at_reading, ask}
 
 -- cub 0 writes what changes nothing, at a reading
 abbrev pub writes : ℕ → ℕ → Noted
@@ -28,3 +28,7 @@ stop_in_five = (record { beat = 5; what = kind.Finish (record { 0 = 0 }) }) ∷ 
 
 abbrev pub true_time : ℕ → ℕ
 true_time beat = beat * 10000
+
+-- a cub stops the instance, which only the controller may
+abbrev pub stops_at : ℕ → Noted
+stops_at cub = at cub 4 (what.Gone (record { 0 = 0 }))

@@ -1,5 +1,5 @@
 -- What walks along the controller's journal and the orders know of stops.
-use Rattle.std.specs.Prelude.{◌≡◌, ℕ, Bool, false, not, ◌&&◌, ◌||◌, ◌==◌, nat_lt, nat_le, List, [], ◌∷◌, length, filter, Option, Some, None, is_some, if◌then◌else◌}
+use Rattle.std.specs.Prelude.{◌≡◌, ℕ, Bool, true, false, not, ◌&&◌, ◌||◌, ◌==◌, nat_lt, nat_le, List, [], ◌∷◌, length, filter, take, Option, Some, None, is_some, slice_get, if◌then◌else◌}
 use Rattle.std.specs.List.{list_any}
 use Rattle.std.specs.Map.{lookup}
 use Rattle.std.specs.Option.{option_or}
@@ -120,3 +120,13 @@ missed_stop c places gone v beat =
 abbrev pub missed_by : Course → KnownPlaces → MarkNumbers → ℕ → OrderKind → Bool
 missed_by c places gone beat (kind.Finish v) = missed_stop c places gone v.0 beat
 missed_by c places gone beat (kind.Begin ask) = false
+
+-- none of these orders has such a stop, and an order is the first that has one
+abbrev pub NoneIsMissed : Course → KnownPlaces → MarkNumbers → List Order → Type 0
+NoneIsMissed c places gone orders =
+    (v beat : ℕ) → stop_ordered orders v beat ≡ true → missed_stop c places gone v beat ≡ false
+
+abbrev pub IsFirstMissed : Course → KnownPlaces → MarkNumbers → List Order → ℕ → Type 0
+IsFirstMissed c places gone orders j =
+    (o : Order) × (slice_get orders j ≡ Some o) × (missed_by c places gone o.beat o.what ≡ true)
+    × NoneIsMissed c places gone (take j orders)

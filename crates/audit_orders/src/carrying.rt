@@ -6,7 +6,7 @@ ghost use Rattle.node_kit.specs.Links.{links_of, ends_of, leads_to, leads_from};
 ghost use Rattle.node_kit.specs.declared.journal.Entry.{Entry};
 ghost use Rattle.run_facts.specs.Carried.{MayBeLost, DiedBy, NotBackBy};
 ghost use Rattle.run_model.specs.Tests.{at_its_end};
-ghost use Rattle.audit_orders.specs.Carrying.{DecidesCarried, IsUncarriedAt, AllAtEnds, AreAtEnds, IsStrayIn, IsWrongIn, IsLostIn, TellsPost, TellsSent, TellsGot, NoneIsLost, FitsNext, FitsMail, IsGotOrLost, MayBeLostOn, all_entries, all_got_at, mail_under, mail_after, count_under, sent_count, got_count, stream_of, back_to, half_of};
+ghost use Rattle.audit_orders.specs.Carrying.{DecidesCarried, IsUncarriedAt, AllAtEnds, AreAtEnds, IsStrayIn, IsWrongIn, IsLostIn, TellsPost, TellsSent, TellsGot, NoneIsLost, FitsNext, FitsMail, IsGotOrLost, MayBeLostOn, all_entries, mail_under, mail_after, count_under, sent_count, got_count, stream_of, back_to, half_of};
 
 use crate::entries::{entry_at, journal_at};
 use crate::mail::{Counts, Mail, Post};
@@ -18,15 +18,16 @@ use tiger_base::{Beat, LinkNo, NoMemory, NodeNo, Note};
 /// Where a kept run is not carried.
 #[derive(Clone, Copy, Debug, PartialEq, Eq)]
 pub enum Uncarried {
-    /// An entry of a node, by its place, that does not stand at its end of its link.
+    /// The first entry of a node, by its place, that does not stand at its end of its link.
     Stray { node: NodeNo, place: usize },
-    /// An entry of a node in which it got a message that is not the next one sent, or not in time.
+    /// The first entry in which a node got a message that is not the next one sent, or not in time; all stand at their ends.
     Got { node: NodeNo, place: usize },
-    /// An entry of a node in which it sent a message that was not got and may not be lost.
+    /// The first entry in which a node sent a message that was not got and may not be lost; all that was got is right.
     Lost { node: NodeNo, place: usize },
 }
 
-/// Where a kept run is not carried; `None` if it is. Each entry costs the logarithm of their number.
+/// The first place at which a kept run is not carried; `None` if it is: a stray entry first, and then one that got the wrong
+/// message, and then one whose message was lost. Each entry costs the logarithm of their number.
 ///
 /// `NoMemory` is the only error.
 pub fn first_uncarried(alloc: Global, k: &Kept) -> Result<Option<Uncarried>, NoMemory>
@@ -238,6 +239,7 @@ fn get_all(
 ) -> Result<Option<Uncarried>, NoMemory>
     requires nodes { length journals.now ≤ 1000 }
     requires links { links.now ≡ links_of course.now.plan.params }
+    requires at_ends { AllAtEnds course.now.plan.params journals.now }
     requires empty { got.old ≡ [] }
     requires post { TellsPost course.now post.now (all_entries journals.now) }
     ensures { IfOk result (λ answer. MatchOption answer
@@ -330,8 +332,8 @@ fn first_lost(
 ) -> Result<Option<Uncarried>, NoMemory>
     requires nodes { length journals.now ≤ 1000 }
     requires links { links.now ≡ links_of course.now.plan.params }
-    requires got { (s : ℕ) → count_under s got.now
-        ≡ length (all_got_at course.now s (all_entries journals.now)) }
+    requires at_ends { AllAtEnds course.now.plan.params journals.now }
+    requires got { TellsGot course.now (all_entries journals.now) got.now (all_entries journals.now) }
     ensures { IfOk result (λ answer. MatchOption answer
         (NoneIsLost course.now got.now (all_entries journals.now))
         (IsUncarriedAt course.now journals.now)) }

@@ -1,6 +1,7 @@
 //! Whether a node other than the controller stops an instance.
 ghost use Rattle.std.specs.Prelude.{◌≡◌, ◌≢◌, ◌≤◌, MatchOption, length};
 ghost use Rattle.run_facts.specs.Commanded.{is_gone, StopsNone};
+ghost use Rattle.audit_orders.specs.Earliest.{IsFirstInRow};
 ghost use Rattle.audit_orders.specs.Commanding.{IsForeignAt, OthersStopNone, IsGoneAt};
 
 use crate::commanding::Uncommanded;
@@ -26,7 +27,7 @@ pub(crate) fn foreign_stop(controller: NodeNo, journals: &[Journal]) -> Option<U
 /// The first stop in a node's journal, if the node is not the controller.
 fn stop_by(controller: NodeNo, node: NodeNo, journal: &[Entry]) -> Option<usize>
     ensures { MatchOption result (node.0 ≢ controller.0 → StopsNone journal.now)
-        (λ i. (node.0 ≢ controller.0) × IsGoneAt journal.now i) }
+        (λ i. (node.0 ≢ controller.0) × IsFirstInRow (IsGoneAt journal.now) i) }
 {
     if node.0 == controller.0 {
         return None;
@@ -36,7 +37,7 @@ fn stop_by(controller: NodeNo, node: NodeNo, journal: &[Entry]) -> Option<usize>
 
 /// The first entry of a journal that stops an instance.
 fn first_gone(journal: &[Entry]) -> Option<usize>
-    ensures { MatchOption result (StopsNone journal.now) (IsGoneAt journal.now) }
+    ensures { MatchOption result (StopsNone journal.now) (IsFirstInRow (IsGoneAt journal.now)) }
 {
     for i in 0..journal.len() {
         let e = entry_at(journal, i);

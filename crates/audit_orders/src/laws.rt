@@ -1,5 +1,5 @@
 //! What the answers of the walks say of the claims on a kept run.
-ghost use Rattle.audit_orders.specs.Verdicts.{UntimedDenies, UncarriedDenies, CommandsOfAccounts, UncommandedDenies};
+ghost use Rattle.audit_orders.specs.Verdicts.{UntimedDenies, UncarriedDenies, CommandsOfAccounts, UncommandedDenies, UncarriedIsOne, UncommandedIsOne, UntimedIsOne};
 
 /// A place that a walk names is one at which the claim is broken: with it the claim does not hold; of what is carried that is
 /// so if the journals of all nodes are there. And if no place is named, the orders are followed as the ninth claim has it of
@@ -10,4 +10,12 @@ pub fn answers_say_the_claims()
     ensures uncarried { UncarriedDenies }
     ensures commanded { CommandsOfAccounts }
     ensures uncommanded { UncommandedDenies }
+{}
+
+/// Which place a walk names follows from the run: two places at each of which a claim breaks first are one.
+#[tactic(auto, using(crate::proofs::Oneness::uncarried_is_one, crate::proofs::Oneness::untimed_is_one, crate::proofs::Oneness::uncommanded_is_one))]
+pub fn walks_name_one_place()
+    ensures uncarried { UncarriedIsOne }
+    ensures untimed { UntimedIsOne }
+    ensures uncommanded { UncommandedIsOne }
 {}

@@ -9,8 +9,8 @@ ghost use Rattle.node_kit.specs.declared.journal.What.TheVariants.{Got};
 ghost use Rattle.run_model.specs.Samples.{kept, kept_of_lives, dying, of_none, ordered, at, sends, gets, dies, is_back, later, all};
 ghost use Rattle.audit_orders.specs.Carrying.{IsUncarriedAt};
 ghost use Rattle.audit_orders.specs.declared.carrying.Uncarried.TheVariants as uncarried;
-ghost use Rattle.audit_orders.specs.Commanding.{DecidesStarts, DecidesStops};
-ghost use Rattle.audit_orders.specs.Samples.{writes, start_to, stops_first, stop_in_five, true_time};
+ghost use Rattle.audit_orders.specs.Commanding.{DecidesStarts, DecidesStops, IsUncommandedAt};
+ghost use Rattle.audit_orders.specs.Samples.{writes, start_to, stops_at, stops_first, stop_in_five, true_time};
 ghost use Rattle.audit_orders.specs.Timing.{DecidesTimed, IsFirstPair};
 ghost use Rattle.audit_orders.specs.declared.commanding.Uncommanded.TheVariants as un;
 ghost use Rattle.audit_orders.specs.declared.flaw.Flaw.TheVariants as flaw;
@@ -65,6 +65,8 @@ pub fn starts()
     ensures sent { DecidesStarts small 10 ordered (start_to 0 0 false ∷ start_to 0 1 true ∷ []) None }
     ensures turned { DecidesStarts small 10 ordered
         (start_to 0 1 true ∷ start_to 0 0 false ∷ []) (Some (un.Start 0)) }
+    ensures not_the_later_beat { DecidesStarts small 10 ordered
+        (start_to 3 0 false ∷ []) (Some (un.Start 0)) → ⊥ }
     ensures not_sent { DecidesStarts small 10 ordered [] (Some (un.Unsent 0)) }
     ensures half_sent { DecidesStarts small 10 ordered (start_to 0 0 false ∷ []) (Some (un.Unsent 0)) }
     ensures not_the_first { DecidesStarts small 10 ordered
@@ -76,13 +78,23 @@ pub fn stops()
     ensures stopped { DecidesStops small 10 true_time stop_in_five (stops_first 5 ∷ []) None }
     ensures early { DecidesStops small 10 true_time stop_in_five
         (stops_first 4 ∷ []) (Some (un.Stop 0)) }
+    ensures not_the_second { DecidesStops small 10 true_time stop_in_five
+        (stops_first 4 ∷ stops_first 4 ∷ []) (Some (un.Stop 1)) → ⊥ }
     ensures again { DecidesStops small 10 true_time stop_in_five
         (stops_first 5 ∷ stops_first 5 ∷ []) (Some (un.Stop 1)) }
     ensures not_stopped { DecidesStops small 10 true_time stop_in_five [] (Some (un.Unstopped 0)) }
 {}
 
+/// Cub 3 stops instance 0, which only the controller may; or cubs 3 and 4 both do.
+pub fn foreign()
+    ensures first { IsUncommandedAt small 10 true_time [] (all (stops_at 3 ∷ []))
+        (un.Foreign (record { 0 = 3 }) 0) }
+    ensures not_the_second { IsUncommandedAt small 10 true_time [] (all (stops_at 3 ∷ stops_at 4 ∷ []))
+        (un.Foreign (record { 0 = 4 }) 0) → ⊥ }
+{}
+
 /// Runs of ten beats, in which a message takes one beat or two, and cub 0 sends the viewers a heartbeat in beat 3. They get it
-/// in beat 6, or not at all; or cub 5 gets it in their place.
+/// in beat 6, or not at all; or cub 5 gets it in their place, or cubs 5 and 6 both do.
 pub fn carrying()
     ensures late { (k : Kept) (p : IsPlan small) → IsUncarriedAt (kept k p 10 of_none [] []).course
         (all (sends 0 3 Heartbeat ∷ gets 0 6 Heartbeat ∷ [])) (uncarried.Got (record { 0 = 17 }) 0) }
@@ -90,4 +102,7 @@ pub fn carrying()
         (all (sends 0 3 Heartbeat ∷ later 4 ∷ [])) (uncarried.Lost (record { 0 = 0 }) 0) }
     ensures stray { (k : Kept) (p : IsPlan small) → IsUncarriedAt (kept k p 10 of_none [] []).course
         (all (at 5 4 (Got (record { 0 = 16 }) Heartbeat) ∷ [])) (uncarried.Stray (record { 0 = 5 }) 0) }
+    ensures not_the_second { (k : Kept) (p : IsPlan small) → IsUncarriedAt (kept k p 10 of_none [] []).course
+        (all (at 5 4 (Got (record { 0 = 16 }) Heartbeat) ∷ at 6 4 (Got (record { 0 = 16 }) Heartbeat) ∷ []))
+        (uncarried.Stray (record { 0 = 6 }) 0) → ⊥ }
 {}

@@ -1,14 +1,14 @@
 //! Whether the controller stops exactly the instances whose stops take effect, each once.
-ghost use Rattle.std.specs.Prelude.{◌≡◌, ℕ, ◌+◌, ◌^◌, ◌<◌, ◌==◌, ◌&&◌, ◌||◌, true, false, Some, slice_get, IfOk, OnOk, MatchOption};
+ghost use Rattle.std.specs.Prelude.{◌≡◌, ℕ, ◌+◌, ◌^◌, ◌<◌, ◌==◌, ◌&&◌, ◌||◌, true, false, Some, IfOk, OnOk, MatchOption};
 ghost use Rattle.std.specs.Option.{option_or};
 ghost use Rattle.slot_plan.specs.Times.{due};
 ghost use Rattle.node_kit.specs.Courses.{IsCourse};
 ghost use Rattle.node_kit.specs.declared.course.Order.{Order};
-ghost use Rattle.run_facts.specs.Commanded.{is_finish_of, is_over, stop_ordered};
+ghost use Rattle.run_facts.specs.Commanded.{is_finish_of, is_over};
 ghost use Rattle.run_facts.specs.Timed.{AreRising};
 ghost use Rattle.audit_frame.specs.Tables.{has_pair, mark_under};
 ghost use Rattle.audit_orders.specs.Commanding.{DecidesStops, clock_of};
-ghost use Rattle.audit_orders.specs.Stops.{TellsFinishes, TellsPlaces, place_under, place_entry_has, place_of_note, place_in_note, by_then, may_by, wrong_by, mark_after, missed_by, missed_stop, is_marked_by};
+ghost use Rattle.audit_orders.specs.Stops.{TellsFinishes, TellsPlaces, place_under, place_entry_has, place_of_note, place_in_note, by_then, may_by, wrong_by, mark_after, missed_by, missed_stop, is_marked_by, NoneIsMissed, IsFirstMissed};
 
 use crate::commanding::Uncommanded;
 use crate::entries::{entry_at, order_at};
@@ -226,10 +226,8 @@ fn take_gone(gone: &mut Marks, e: &Entry) -> Result<(), NoMemory>
 fn first_missed(course: &Course, orders: &[Order], places: &Places, gone: &Marks) -> Option<usize>
     requires { IsCourse course.now }
     ensures { MatchOption result
-        ((v beat : ℕ) → stop_ordered orders.now v beat ≡ true
-        → missed_stop course.now places.now gone.now v beat ≡ false)
-        (λ j. (o : Order) × (slice_get orders.now j ≡ Some o)
-        × (missed_by course.now places.now gone.now o.beat o.what ≡ true)) }
+        (NoneIsMissed course.now places.now gone.now orders.now)
+        (IsFirstMissed course.now places.now gone.now orders.now) }
 {
     for i in 0..orders.len() {
         let order = order_at(orders, i);

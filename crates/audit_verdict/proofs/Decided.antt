@@ -1,21 +1,17 @@
 -- What the walks' answers say of the clauses, told as places of the run.
-use Rattle.std.proofs.Common.{◌≡◌, ℕ, zero, suc, ◌+◌, ◌<◌, ◌≤◌, Bool, true, false, List, [], ◌∷◌, length, take, filter, Option, Some, None, option_map, refl, sym, ap, subst, ◌∙◌, arith, le_trans, length-append, ◌⊎◌, ⊎_elim, inl, inr}
-use Rattle.std.specs.Prelude.{nat_le, if◌then◌else◌}
+use Rattle.std.proofs.Common.{◌≡◌, ℕ, zero, suc, ◌+◌, ◌<◌, ◌≤◌, Bool, true, false, List, [], ◌∷◌, length, take, filter, Option, Some, None, option_map, refl, sym, ap, subst, ◌∙◌, arith, length-append, ◌⊎◌, ⊎_elim, inl, inr}
+use Rattle.std.specs.Prelude.{nat_le}
 use Rattle.std.proofs.lemmas.Bool.{cases_Bool, leb-true, leb-false}
 use Rattle.std.proofs.lemmas.List.{take_all, length-map}
-use Rattle.slot_plan.specs.declared.params.Params.{Params}
 use Rattle.node_kit.specs.declared.course.Kept.{Kept}
 use Rattle.run_facts.specs.Order.{Noted}
-use Rattle.run_model.specs.Moments.{opening, next_moment}
 use Rattle.run_model.specs.Orders.{is_up_to}
-use Rattle.run_model.specs.Parts.{ViewsArePart, ViewsAreAlwaysPart, EntriesAreLocal, IsLocal}
 use Rattle.run_model.specs.Runs.{IsTimedRun, order_in}
 use Rattle.run_claims.specs.Accounts.{account_of, ticks_in}
 use Rattle.run_claims.specs.Claims.{PartViews}
 use Rattle.audit_frame.specs.First.{Decides, IsFirstFalse}
 use Rattle.audit_frame.specs.Lines.{noted_line, told_by}
 use Rattle.audit_frame.specs.declared.lines.Line.{Line}
-use Rattle.audit_frame.proofs.Deciding.{of_front}
 use Rattle.audit_orders.specs.Carrying.{DecidesCarried}
 use Rattle.audit_orders.specs.Commanding.{DecidesCommanded}
 use Rattle.audit_orders.specs.Timing.{IsUntimedAt}
@@ -25,8 +21,7 @@ use Rattle.audit_orders.specs.declared.commanding.Uncommanded.{Uncommanded}
 use Rattle.audit_orders.specs.declared.timing.Untimed.{Untimed}
 use Rattle.audit_orders.proofs.Denying.{untimed_denies, commands_of_accounts, uncommanded_denies}
 use Rattle.audit_orders.proofs.Refuting.{uncarried_denies}
-use Rattle.audit_views.proofs.Bringing.{local_goes_by_steps}
-use Rattle.audit_views.proofs.Steps.{views_go_by_steps}
+use Rattle.audit_views.specs.Verdicts.{ArePartAndLocal}
 use Rattle.audit_blocks.specs.Verdicts.{FindsFirst, IsFirstWithout, IsServedIn}
 use Rattle.audit_blocks.proofs.Claiming.{delivery_of_accounts}
 use Rattle.audit_waits.specs.Ticks.{DecidesPatience, IsFirstPassedOver, last_place}
@@ -34,8 +29,8 @@ use Rattle.audit_waits.specs.declared.walk.PassedOver.{PassedOver}
 use Rattle.audit_waits.proofs.Saying.{patience_of_accounts}
 use Rattle.audit_read.specs.Writable.{IsWritable}
 use Rattle.audit_verdict.specs.Clocks.{ShowClocks, ShowsClocks}
-use Rattle.audit_verdict.specs.Places.{ArePartAndLocal, IsWhereFalse, place_uncarried, place_untimed, place_uncommanded}
-use Rattle.audit_verdict.specs.Verdicts.{AnswersClaim, AnswersClause, IsInside, IsLoggedAnswer, IsTickInside, IsTickAnswer, earlier_of}
+use Rattle.audit_verdict.specs.Places.{IsWhereFalse, place_uncarried, place_untimed, place_uncommanded}
+use Rattle.audit_verdict.specs.Verdicts.{AnswersClaim, AnswersClause, IsInside, IsLoggedAnswer, IsTickInside, IsTickAnswer}
 use Rattle.audit_verdict.specs.declared.clause.Clause.TheVariants as clause
 use Rattle.audit_verdict.specs.declared.place.Place.{Place}
 use Rattle.audit_verdict.proofs.Needed.{all_journals}
@@ -102,70 +97,13 @@ readings_told k told answer result timed is d l = of_timed result (decided k (Sh
 
 -- ---- views
 
-views_before : (p : Params) (log : List Noted) (j : ℕ) → ViewsAreAlwaysPart p log → ViewsAreAlwaysPart p (take j log)
-views_before p log j =
-    of_front (ViewsAreAlwaysPart p) (λ m x. ViewsArePart p (next_moment m x)) next_moment opening (views_go_by_steps p) log j
-
-entries_before : (p : Params) (log : List Noted) (j : ℕ) → EntriesAreLocal p log → EntriesAreLocal p (take j log)
-entries_before p log j = of_front (EntriesAreLocal p) (IsLocal p) next_moment opening (local_goes_by_steps p) log j
-
-by_views : (p : Params) (log : List Noted) (i : ℕ) → IsFirstFalse (ViewsAreAlwaysPart p) log i
-    → ((j : ℕ) → j ≤ i → EntriesAreLocal p (take j log)) → IsFirstFalse (ArePartAndLocal p) log i
-by_views p log i d other = record {
-  inside = d.inside;
-  before = λ j le. (d.before j le, other j le);
-  with_it = λ h. d.with_it h.0;
-  whole = λ h. d.whole h.0;
-}
-
-by_entries : (p : Params) (log : List Noted) (i : ℕ) → IsFirstFalse (EntriesAreLocal p) log i
-    → ((j : ℕ) → j ≤ i → ViewsAreAlwaysPart p (take j log)) → IsFirstFalse (ArePartAndLocal p) log i
-by_entries p log i d other = record {
-  inside = d.inside;
-  before = λ j le. (other j le, d.before j le);
-  with_it = λ h. d.with_it h.1;
-  whole = λ h. d.whole h.1;
-}
-
-lesser : (p : Params) (log : List Noted) (i j : ℕ) (low : Bool) → nat_le i j ≡ low → IsFirstFalse (ViewsAreAlwaysPart p) log i
-    → IsFirstFalse (EntriesAreLocal p) log j → Decides (ArePartAndLocal p) log (if low then Some i else Some j)
-lesser p log i j true is a b =
-    let le : i ≤ j = leb-true i j is in
-    by_views p log i a (λ n low. b.before n (le_trans low le))
-lesser p log i j false is a b =
-    let lt : j < i = leb-false i j is in
-    by_entries p log j b (λ n low. a.before n (omega (arith, low, lt)))
-
-both_decided : (p : Params) (log : List Noted) (views entries : Option ℕ) → Decides (ViewsAreAlwaysPart p) log views
-    → Decides (EntriesAreLocal p) log entries → Decides (ArePartAndLocal p) log (earlier_of views entries)
-both_decided p log None None a b = (a, b)
-both_decided p log None (Some j) a b = by_entries p log j b (λ n low. views_before p log n a)
-both_decided p log (Some i) None a b = by_views p log i a (λ n low. entries_before p log n b)
-both_decided p log (Some i) (Some j) a b = lesser p log i j (nat_le i j) refl a b
-
-views_decided : (k : Kept) (told : List Noted) (views entries : Option ℕ) (result : Option Place) → told ≡ order_in k
-    → Decides (ViewsAreAlwaysPart k.course.plan.params) told views → Decides (EntriesAreLocal k.course.plan.params) told entries
-    → IsLoggedAnswer k (earlier_of views entries) result → AnswersClause k clause.PartViews result
-views_decided k told views entries result is a b l =
+pub views_told : (k : Kept) (told : List Noted) (answer : Option ℕ) (result : Option Place) → told ≡ order_in k
+    → Decides (ArePartAndLocal k.course.plan.params) told answer → IsLoggedAnswer k answer result → AnswersClause k clause.PartViews result
+views_told k told answer result is d l =
     let p = k.course.plan.params in
     same_claim (ArePartAndLocal p (order_in k)) (PartViews (account_of k)) (IsWhereFalse k (ArePartAndLocal p)) result
     (λ h. record { always = h.0; local = h.1 }) (λ c. (c.always, c.local))
-    (decided k (ArePartAndLocal p) told (earlier_of views entries) result is (both_decided p told views entries a b) l)
-
-pub inside_both : (p : Params) (lines : List Line) (views entries answer : Option ℕ) → answer ≡ earlier_of views entries
-    → Decides (ViewsAreAlwaysPart p) (told_by lines) views → Decides (EntriesAreLocal p) (told_by lines) entries
-    → IsInside (length lines) answer
-inside_both p lines views entries answer is a b =
-    subst (λ (o : Option ℕ). IsInside (length lines) o) (sym is)
-    (inside_log (ArePartAndLocal p) lines (earlier_of views entries) (both_decided p (told_by lines) views entries a b))
-
-pub views_told : (k : Kept) (lines : List Line) (views entries answer : Option ℕ) (result : Option Place)
-    → answer ≡ earlier_of views entries → told_by lines ≡ order_in k
-    → Decides (ViewsAreAlwaysPart k.course.plan.params) (told_by lines) views
-    → Decides (EntriesAreLocal k.course.plan.params) (told_by lines) entries
-    → IsLoggedAnswer k answer result → AnswersClause k clause.PartViews result
-views_told k lines views entries answer result is told a b l =
-    views_decided k (told_by lines) views entries result told a b (subst (λ (o : Option ℕ). IsLoggedAnswer k o result) is l)
+    (decided k (ArePartAndLocal p) told answer result is d l)
 
 -- ---- delivery
 

@@ -6,5 +6,7 @@ pub mod Decided
 pub mod Clauses
 pub mod Counted
 pub mod Judging
+pub mod OnePlace
 pub mod Told
 pub mod Silent
+pub mod Quiet

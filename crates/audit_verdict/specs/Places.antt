@@ -7,7 +7,6 @@ use Rattle.node_kit.specs.declared.journal.Entry.{Entry}
 use Rattle.node_kit.specs.Links.{links_of, controller_of}
 use Rattle.run_facts.specs.Order.{Noted}
 use Rattle.run_model.specs.Orders.{PutsAreFair}
-use Rattle.run_model.specs.Parts.{ViewsAreAlwaysPart, EntriesAreLocal}
 use Rattle.run_model.specs.Runs.{IsTimedRun, order_in}
 use Rattle.run_claims.specs.Accounts.{ticks_in}
 use Rattle.run_claims.specs.Returns.{NobodyComesBack}
@@ -25,6 +24,7 @@ use Rattle.audit_orders.specs.declared.commanding.Uncommanded.TheVariants as unc
 use Rattle.audit_orders.specs.declared.flaw.Flaw.TheVariants as flaw
 use Rattle.audit_orders.specs.declared.timing.Untimed.{Untimed}
 use Rattle.audit_orders.specs.declared.timing.Untimed.TheVariants as untimed
+use Rattle.audit_views.specs.Verdicts.{ArePartAndLocal}
 use Rattle.audit_blocks.specs.Verdicts.{IsFirstWithout, IsServedIn}
 use Rattle.audit_waits.specs.Ticks.{IsFirstPassedOver}
 use Rattle.audit_waits.specs.declared.walk.PassedOver.{PassedOver}
@@ -108,10 +108,6 @@ pub record IsPassedTick (k : Kept) (here : Place) : Type 0 where
   pub first : IsFirstPassedOver k.course.plan.params k.orders (ticks_in k.course) (order_in k) tick
 
 -- ---- by clauses
-
--- both halves of the claim on views
-abbrev pub ArePartAndLocal : Params → List Noted → Type 0
-ArePartAndLocal p log = ViewsAreAlwaysPart p log × EntriesAreLocal p log
 
 -- a run is not timed here
 abbrev pub IsUntimedPlace : Kept → Place → Type 0

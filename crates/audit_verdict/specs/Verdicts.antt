@@ -1,5 +1,5 @@
 -- What is found of a kept run: that all twelve clauses hold of it, or the first that does not, and where it is broken.
-use Rattle.std.specs.Prelude.{◌≡◌, ℕ, ◌<◌, ◌==◌, nat_le, List, length, take, filter, Option, Some, None, if◌then◌else◌}
+use Rattle.std.specs.Prelude.{◌≡◌, ℕ, ◌<◌, ◌==◌, List, length, take, filter, Option, Some, None}
 use Rattle.node_kit.specs.declared.course.Kept.{Kept}
 use Rattle.audit_frame.specs.Lines.{told_by}
 use Rattle.audit_frame.specs.declared.lines.Line.{Line}
@@ -25,6 +25,10 @@ pub record IsFirstBroken (k : Kept) (c : Clause) (here : Place) : Type 0 where
   pub lower : MeetsBefore k c
   pub broken : MeetsClause k c → ⊥
   pub where_it_is : IsPlaceOf k c here
+
+-- a clause is broken at one place
+abbrev pub PlacesAreOne : Type 0
+PlacesAreOne = (k : Kept) (c : Clause) (a b : Place) → IsPlaceOf k c a → IsPlaceOf k c b → a ≡ b
 
 -- a verdict says of a kept run what is so
 abbrev pub IsVerdictOn : Kept → Verdict → Type 0
@@ -58,12 +62,6 @@ IsLoggedAnswer k (Some i) None = ⊥
 -- how many of the lines before a place are of a node
 abbrev pub count_before : List Line → ℕ → ℕ → ℕ
 count_before lines n i = length (filter (λ y. y.node == n) (take i (told_by lines)))
-
--- the lower one of two answers
-abbrev pub earlier_of : Option ℕ → Option ℕ → Option ℕ
-earlier_of None other = other
-earlier_of (Some i) None = Some i
-earlier_of (Some i) (Some j) = if nat_le i j then Some i else Some j
 
 -- the same of a tick that an answer names, by the last entry up to it
 abbrev pub IsTickInside : ℕ → Option PassedOver → Type 0

@@ -26,8 +26,9 @@ pub enum Judgement {
     No { clause: Clause, place: Place },
 }
 
-/// What `audit` says of a kept run, with its counts if that is a Yes. The log in order and the tables of blocks are made once,
-/// for both.
+/// Whether all twelve clauses hold of what is kept of a run, whoever wrote it, with its counts if they do; and if not, the
+/// first that does not, and where it is broken. No node's program is read. The log in order and the tables of blocks are made
+/// once, for the verdict and for the counts.
 ///
 /// `NoMemory` is the only error.
 pub fn judge(alloc: Global, kept: &Kept) -> Result<Judgement, NoMemory>

@@ -4,23 +4,12 @@ ghost use Rattle.node_kit.specs.declared.course.Kept.{Kept};
 ghost use Rattle.run_model.specs.Runs.{IsTimedRun, order_in};
 ghost use Rattle.audit_frame.specs.Lines.{told_by};
 ghost use Rattle.audit_verdict.specs.Places.{IsLastLogged, IsLoggedEntry};
-ghost use Rattle.audit_verdict.specs.Verdicts.{IsInside, IsLoggedAnswer, IsTickAnswer, IsTickInside, count_before, earlier_of};
+ghost use Rattle.audit_verdict.specs.Verdicts.{IsInside, IsLoggedAnswer, IsTickAnswer, IsTickInside, count_before};
 
 use crate::place::{EntryPlace, Place};
 use audit_frame::{Line, line_at};
 use audit_waits::PassedOver;
 use tiger_base::NodeNo;
-
-/// The lower one of two answers by places of the log.
-pub(crate) fn earlier(a: Option<usize>, b: Option<usize>) -> Option<usize>
-    ensures { result ≡ earlier_of a b }
-{
-    match (a, b) {
-        (Some(i), Some(j)) => { if i <= j { Some(i) } else { Some(j) } }
-        (Some(i), None) => Some(i),
-        (None, other) => other,
-    }
-}
 
 /// An answer by a place of the log, as a place of the run.
 pub(crate) fn logged<'a>(log: &[Line<'a>], found: Option<usize>) -> Option<Place>

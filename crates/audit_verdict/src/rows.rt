@@ -8,9 +8,13 @@ ghost use Rattle.node_kit.specs.declared.course.Kept.{Kept};
 ghost use Rattle.run_model.specs.Samples.{believes, is_back, dies, dying, gets, kept, kept_of_lives, of_none, ordered, sends};
 ghost use Rattle.audit_orders.specs.Samples.{writes};
 ghost use Rattle.audit_verdict.specs.Clocks.{ShowsClocks};
-ghost use Rattle.audit_verdict.specs.Samples.{at_entry, at_order};
+ghost use Rattle.audit_verdict.specs.Counting.{AreCountsIn};
+ghost use Rattle.audit_verdict.specs.Judgements.{IsJudgementOn};
+ghost use Rattle.audit_verdict.specs.Samples.{at_death, at_entry, at_order, counts_with, one_of_each, only_puts};
+ghost use Rattle.audit_verdict.specs.Telling.{IsLineOfPlace};
 ghost use Rattle.audit_verdict.specs.Verdicts.{IsVerdictOn};
 ghost use Rattle.audit_verdict.specs.declared.clause.Clause.TheVariants as clause;
+ghost use Rattle.audit_verdict.specs.declared.judgement.Judgement.TheVariants as judgement;
 ghost use Rattle.audit_verdict.specs.declared.verdict.Verdict.TheVariants as verdict;
 
 /// In a run of a beat nobody writes anything.
@@ -63,4 +67,36 @@ pub fn belief()
     ensures { (k : Kept) (p : IsPlan small) → IsVerdictOn
         (kept k p 1 of_none [] (believes 1 0 0 ∷ []))
         (verdict.No clause.TrueBelief (at_entry 1 0)) }
+{}
+
+/// Cub 0 dies in beat 4, nobody writes anything, and nothing is ordered: the five lines before the deaths are those of every
+/// text, so the sixth tells this one; no line tells another death, an order or an entry.
+pub fn lines()
+    ensures death { (k : Kept) (p : IsPlan small) → IsLineOfPlace
+        (kept k p 10 (dying (Some 4) None None) [] []) (at_death 0) (Some 6) }
+    ensures line_before { (k : Kept) (p : IsPlan small) → IsLineOfPlace
+        (kept k p 10 (dying (Some 4) None None) [] []) (at_death 0) (Some 5) → ⊥ }
+    ensures no_death { (k : Kept) (p : IsPlan small) → IsLineOfPlace
+        (kept k p 10 (dying (Some 4) None None) [] []) (at_death 1) None }
+    ensures no_order { (k : Kept) (p : IsPlan small) → IsLineOfPlace
+        (kept k p 10 (dying (Some 4) None None) [] []) (at_order 0) None }
+    ensures no_entry { (k : Kept) (p : IsPlan small) → IsLineOfPlace
+        (kept k p 10 (dying (Some 4) None None) [] []) (at_entry 0 0) None }
+{}
+
+/// A log has one entry of each kind that is counted, and one more; node 17 is the viewers.
+pub fn counts()
+    ensures is { AreCountsIn 17 one_of_each (counts_with 1) }
+    ensures blocks { AreCountsIn 17 one_of_each (counts_with 2) → ⊥ }
+    ensures others { AreCountsIn 16 one_of_each (counts_with 1) → ⊥ }
+{}
+
+/// In a run of a beat nobody writes anything, and the judgement is a Yes that counts nothing.
+pub fn judgements()
+    ensures nothing { (k : Kept) (p : IsPlan small) → IsJudgementOn (kept k p 1 of_none [] [])
+        (judgement.Yes (only_puts 0)) }
+    ensures a_put { (k : Kept) (p : IsPlan small) → IsJudgementOn (kept k p 1 of_none [] [])
+        (judgement.Yes (only_puts 1)) → ⊥ }
+    ensures no { (k : Kept) (p : IsPlan small) → IsJudgementOn (kept k p 1 of_none [] [])
+        (judgement.No clause.Carried (at_entry 17 0)) → ⊥ }
 {}

@@ -6,13 +6,13 @@ ghost use Rattle.audit_read.specs.Writable.{IsWritable};
 ghost use Rattle.audit_verdict.specs.Verdicts.{AnswersClause, MeetsBefore};
 ghost use Rattle.audit_verdict.specs.declared.clause.Clause.TheVariants as clause;
 
-use crate::logged::{earlier, logged};
+use crate::logged::logged;
 use crate::place::Place;
 use audit_frame::Line;
 use audit_schedule::{
     first_false_belief, first_false_failure, first_out_of_turn, first_return, first_unfair_put,
 };
-use audit_views::{first_not_local, first_stray_view};
+use audit_views::first_false_view;
 use audit_visits::first_served_twice;
 use node_kit::Kept;
 use std::alloc::Global;
@@ -44,10 +44,8 @@ pub(crate) fn stray<'a>(
     requires told { told_by log.now ≡ order_in kept.now }
     ensures { IfOk result (AnswersClause kept.now clause.PartViews) }
 {
-    let plan = &kept.course.plan;
-    let view = first_stray_view(alloc, plan, log)?;
-    let entry = first_not_local(alloc, plan, log)?;
-    Ok(logged(log, earlier(view, entry)))
+    let found = first_false_view(alloc, &kept.course.plan, log)?;
+    Ok(logged(log, found))
 }
 
 /// Where a stopped instance comes back.

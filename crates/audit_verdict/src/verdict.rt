@@ -13,8 +13,8 @@ use crate::place::Place;
 use crate::schedule::{
     false_belief, false_failure, out_of_turn, returning, served_twice, stray, unfair_put,
 };
-use audit_blocks::{Tables, tables_of};
-use audit_frame::{Line, lines_of};
+use audit_blocks::Tables;
+use audit_frame::Line;
 use node_kit::Kept;
 use std::alloc::Global;
 use tiger_base::NoMemory;
@@ -28,21 +28,10 @@ pub enum Verdict {
     No { clause: Clause, place: Place },
 }
 
-/// Whether all twelve clauses hold of what is kept of a run, whoever wrote it; and if not, the first that does not, and where
-/// it is broken. No node's program is read.
+/// Whether all twelve clauses hold of a kept run, by its tables of blocks and its log; and if not, the first that does not, and
+/// where it is broken.
 ///
 /// `NoMemory` is the only error.
-pub fn audit(alloc: Global, kept: &Kept) -> Result<Verdict, NoMemory>
-    requires { IsWritable kept.now }
-    ensures { IfOk result (IsVerdictOn kept.now) }
-{
-    let lines = lines_of(alloc, kept)?;
-    let log = lines.as_slice();
-    let tables = tables_of(alloc, kept)?;
-    verdict_on(alloc, kept, &tables, log)
-}
-
-/// The same, by the tables of blocks and the log, which the counts of a run need too.
 pub(crate) fn verdict_on<'a>(
     alloc: Global,
     kept: &Kept,

@@ -1,5 +1,5 @@
 -- What was brought to cubs is told by a table, and what they take and send is judged by it.
-use Rattle.std.proofs.Common.{◌≡◌, ℕ, ◌+◌, ◌-◌, ◌<◌, ◌≤◌, Bool, true, false, not, ◌&&◌, ◌||◌, IsTrue, nat_lt, nat_le, cond, List, [], ◌∷◌, ◌++◌, refl, sym, ap, subst, ◌∙◌, ⊎_elim, inl, inr, arith}
+use Rattle.std.proofs.Common.{◌≡◌, ℕ, ◌+◌, ◌-◌, ◌<◌, ◌≤◌, Bool, true, false, ◌&&◌, ◌||◌, IsTrue, nat_lt, nat_le, cond, List, [], ◌∷◌, ◌++◌, refl, sym, ap, subst, ◌∙◌, ⊎_elim, inl, inr, arith}
 use Rattle.std.specs.Prelude.{◌==◌, ◌↔◌, ◌⊎◌}
 use Rattle.std.specs.List.{list_any}
 use Rattle.std.proofs.lemmas.Bool.{eqb-true, eq-eqb, false≢true, both_ways}
@@ -28,10 +28,9 @@ use Rattle.audit_frame.proofs.Deciding.{GoesBySteps}
 use Rattle.audit_frame.proofs.Recorded.{one_record, record_itself}
 use Rattle.audit_frame.proofs.Spans.{same_test}
 use Rattle.audit_views.specs.Standing.{has_record}
-use Rattle.audit_views.specs.Local.{BringsAt, TellsBrought, TellsLocal, has_by, is_soon, state_brings, note_brings}
+use Rattle.audit_views.specs.Local.{BringsAt, TellsBrought, has_by, is_soon, state_brings, note_brings}
 use Rattle.audit_views.specs.Views.{is_in_view, TellsRecords}
 use Rattle.audit_views.proofs.Members.{stands}
-use Rattle.audit_views.proofs.Taking.{empties, of_records, same_told, nothing_told, took_told, dropped_told, emptied_told}
 
 pub local_goes_by_steps : (p : Params) → GoesBySteps (EntriesAreLocal p) (IsLocal p) next_moment opening
 local_goes_by_steps p log = ((λ h. h), (λ h. h))
@@ -152,11 +151,11 @@ sent_judged p held m c s r low is h =
           (any_split (IsOwnRecordFor s) (IsOwnAt s.tenancy s.visit) (IsOwnAt s.tenancy (s.visit - 1)) (0 < s.visit) (view_of m c) (own_at s) q)),
     )
 
-pub state_judged : (p : Params) (held brought : List Held) (m : Moment) (c reading : ℕ) (link : LinkNo) (n : Note) (s : State)
-    (r : Bool) → n ≡ note.ViewerState s → c < p.cubs → r ≡ has_by c s.tenancy s.visit held → TellsLocal p held brought m
+pub state_judged : (p : Params) (held : List Held) (m : Moment) (c reading : ℕ) (link : LinkNo) (n : Note) (s : State)
+    (r : Bool) → n ≡ note.ViewerState s → c < p.cubs → r ≡ has_by c s.tenancy s.visit held → TellsRecords p held m
     → IsTrue r ↔ IsLocalEntry p m c reading (what.Sent link n)
-state_judged p held brought m c reading link n s r is low e h =
-    subst (λ (k : Note). IsTrue r ↔ IsLocalEntry p m c reading (what.Sent link k)) (sym is) (sent_judged p held m c s r low e h.views)
+state_judged p held m c reading link n s r is low e h =
+    subst (λ (k : Note). IsTrue r ↔ IsLocalEntry p m c reading (what.Sent link k)) (sym is) (sent_judged p held m c s r low e h)
 
 pub other_note_judged : (p : Params) (m : Moment) (c reading : ℕ) (link : LinkNo) (n : Note)
     → ((s : State) → n ≡ note.ViewerState s → ⊥) → IsTrue true ↔ IsLocalEntry p m c reading (what.Sent link n)
@@ -176,11 +175,11 @@ rest_is left right most fits = same_test (nat_le right (most - left)) (nat_le (l
     (λ h. let le = (at_most right (most - left)).0 h in (at_most (left + right) most).1 (omega (arith, le, fits)))
     (λ h. let le = (at_most (left + right) most).0 h in (at_most right (most - left)).1 (omega (arith, le, fits)))
 
-pub record_judged : (p : Params) (held brought : List Held) (m : Moment) (c reading : ℕ) (q : Rec) (mine came soon r : Bool)
+pub record_judged : (p : Params) (brought : List Held) (m : Moment) (c reading : ℕ) (q : Rec) (mine came soon r : Bool)
     → r ≡ (mine && (came && soon)) → IsTrue mine ↔ IsForCub p c q.kind q.visit → came ≡ has_by c q.tenancy q.visit brought
-    → soon ≡ is_soon p reading q → TellsLocal p held brought m → IsTrue r ↔ IsLocalRecord p m c reading q
-record_judged p held brought m c reading q mine came soon r is own by early h =
-    let judged = came_judged p brought m c q.tenancy q.visit came by h.came in (
+    → soon ≡ is_soon p reading q → TellsBrought p brought m → IsTrue r ↔ IsLocalRecord p m c reading q
+record_judged p brought m c reading q mine came soon r is own by early h =
+    let judged = came_judged p brought m c q.tenancy q.visit came by h in (
       (λ t.
           let all : IsTrue (mine && (came && soon)) = sym is ∙ t in
           let rest = and_right mine (came && soon) all in
@@ -300,97 +299,33 @@ got_brings p n c w link k t visit is =
     subst (λ (v : What). IsTrue (note_brings p n link.0 k c (own_of t visit)) ↔ ((n ≡ c) × BringsAt p c t visit v)) (sym is)
     (note_gives p n c link k t visit)
 
-abbrev brings_some : What → Bool
-brings_some (what.Put t) = true
-brings_some (what.Got link k) = true
-brings_some other = false
+-- ---- the table, for each kind of entry
 
-quiet : (p : Params) (c : ℕ) (t : Tenancy) (visit : ℕ) (w : What) → brings_some w ≡ false → BringsAt p c t visit w → ⊥
-quiet p c t visit (what.Put put) e h = false≢true (sym e)
-quiet p c t visit (what.Got link k) e h = false≢true (sym e)
-quiet p c t visit other e h = absurd h
-
-brought_same : (p : Params) (brought : List Held) (m : Moment) (x : Noted) → brings_some x.entry.what ≡ false → TellsBrought p brought m
-    → TellsBrought p brought (next_moment m x)
-brought_same p brought m x e h = brought_more p brought brought m x
-    (λ c t visit. ((λ a. inl a), (λ a. ⊎_elim (λ q. q) (λ q. absurd (quiet p c t visit x.entry.what e q.1)) a))) h
-
--- ---- all tables, for each kind of entry
-
-pub put_local : (p : Params) (held old new : List Held) (m : Moment) (x : Noted) (t : Tenancy) → x.entry.what ≡ what.Put t
+pub put_brought : (p : Params) (old new : List Held) (m : Moment) (x : Noted) (t : Tenancy) → x.entry.what ≡ what.Put t
     → ((c : ℕ) (q : Rec) → has_record c q new ≡ (has_record c q old || is_same x.node (own_of t t.first) c q))
-    → TellsLocal p held old m → TellsLocal p held new (next_moment m x)
-put_local p held old new m x t is added h = record {
-  views = same_told p held m x (ap of_records is) h.views;
-  came = brought_more p old new m x (added_more p x.node x.entry.what old new (is_same x.node (own_of t t.first)) added
-      (λ c u visit. put_brings p x.node c x.entry.what t u visit is)) h.came;
-}
+    → TellsBrought p old m → TellsBrought p new (next_moment m x)
+put_brought p old new m x t is added =
+    brought_more p old new m x (added_more p x.node x.entry.what old new (is_same x.node (own_of t t.first)) added
+    (λ c u visit. put_brings p x.node c x.entry.what t u visit is))
 
-pub got_local : (p : Params) (held old new : List Held) (m : Moment) (x : Noted) (link : LinkNo) (k : Note)
-    → x.entry.what ≡ what.Got link k
+pub got_brought : (p : Params) (old new : List Held) (m : Moment) (x : Noted) (link : LinkNo) (k : Note) → x.entry.what ≡ what.Got link k
     → ((c : ℕ) (q : Rec) → has_record c q new ≡ (has_record c q old || note_brings p x.node link.0 k c q))
-    → TellsLocal p held old m → TellsLocal p held new (next_moment m x)
-got_local p held old new m x link k is added h = record {
-  views = same_told p held m x (ap of_records is) h.views;
-  came = brought_more p old new m x (added_more p x.node x.entry.what old new (note_brings p x.node link.0 k) added
-      (λ c u visit. got_brings p x.node c x.entry.what link k u visit is)) h.came;
-}
+    → TellsBrought p old m → TellsBrought p new (next_moment m x)
+got_brought p old new m x link k is added =
+    brought_more p old new m x (added_more p x.node x.entry.what old new (note_brings p x.node link.0 k) added
+    (λ c u visit. got_brings p x.node c x.entry.what link k u visit is))
 
-pub took_local : (p : Params) (held new brought : List Held) (m : Moment) (x : Noted) (q : Rec) → x.entry.what ≡ what.Took q
-    → ((c : ℕ) (r : Rec) → has_record c r new
-    ≡ (has_record c r held || (nat_lt x.node p.cubs && is_same x.node q c r)))
-    → TellsLocal p held brought m → TellsLocal p new brought (next_moment m x)
-took_local p held new brought m x q is added h = record {
-  views = took_told p held new m x q is added h.views;
-  came = brought_same p brought m x (ap brings_some is) h.came;
-}
+quiet : (p : Params) (c : ℕ) (t : Tenancy) (visit : ℕ) (w : What) → ((put : Tenancy) → w ≡ what.Put put → ⊥)
+    → ((link : LinkNo) (k : Note) → w ≡ what.Got link k → ⊥) → BringsAt p c t visit w → ⊥
+quiet p c t visit (what.Put put) a b h = a put refl
+quiet p c t visit (what.Got link k) a b h = b link k refl
+quiet p c t visit other a b h = h
 
-pub dropped_local : (p : Params) (held new brought : List Held) (m : Moment) (x : Noted) (q : Rec)
-    → x.entry.what ≡ what.Dropped q → ((c : ℕ) (r : Rec) → has_record c r new ≡ (has_record c r held && not (is_same x.node q c r)))
-    → TellsLocal p held brought m → TellsLocal p new brought (next_moment m x)
-dropped_local p held new brought m x q is removed h = record {
-  views = dropped_told p held new m x q is removed h.views;
-  came = brought_same p brought m x (ap brings_some is) h.came;
-}
+pub none_brought : (p : Params) (brought : List Held) (m : Moment) (x : Noted) → ((t : Tenancy) → x.entry.what ≡ what.Put t → ⊥)
+    → ((link : LinkNo) (k : Note) → x.entry.what ≡ what.Got link k → ⊥) → TellsBrought p brought m
+    → TellsBrought p brought (next_moment m x)
+none_brought p brought m x a b = brought_more p brought brought m x
+    (λ c t visit. ((λ q. inl q), (λ q. ⊎_elim (λ q. q) (λ q. absurd (quiet p c t visit x.entry.what a b q.1)) q)))
 
-brings_none : (w : What) → empties w ≡ true → brings_some w ≡ false
-brings_none what.Died e = refl
-brings_none what.Returned e = refl
-brings_none other e = absurd (false≢true e)
-
-pub emptied_local : (p : Params) (held new brought : List Held) (m : Moment) (x : Noted) → empties x.entry.what ≡ true
-    → ((c : ℕ) (r : Rec) → has_record c r new ≡ (has_record c r held && not (x.node == c)))
-    → TellsLocal p held brought m → TellsLocal p new brought (next_moment m x)
-emptied_local p held new brought m x is cleared h = record {
-  views = emptied_told p held new m x is cleared h.views;
-  came = brought_same p brought m x (brings_none x.entry.what is) h.came;
-}
-
-other_kind : (w : What) → ((t : Tenancy) → w ≡ what.Put t → ⊥) → ((link : LinkNo) (k : Note) → w ≡ what.Got link k → ⊥)
-    → ((r : Rec) → w ≡ what.Took r → ⊥) → ((r : Rec) → w ≡ what.Dropped r → ⊥) → (w ≡ what.Died → ⊥)
-    → (w ≡ what.Returned → ⊥) → (brings_some w ≡ false) × (of_records w ≡ false)
-other_kind (what.Put t) a b c d e f = absurd (a t refl)
-other_kind (what.Got link k) a b c d e f = absurd (b link k refl)
-other_kind (what.Took r) a b c d e f = absurd (c r refl)
-other_kind (what.Dropped r) a b c d e f = absurd (d r refl)
-other_kind what.Died a b c d e f = absurd (e refl)
-other_kind what.Returned a b c d e f = absurd (f refl)
-other_kind other a b c d e f = (refl, refl)
-
-pub other_local : (p : Params) (held brought : List Held) (m : Moment) (x : Noted)
-    → ((t : Tenancy) → x.entry.what ≡ what.Put t → ⊥) → ((link : LinkNo) (k : Note) → x.entry.what ≡ what.Got link k → ⊥)
-    → ((r : Rec) → x.entry.what ≡ what.Took r → ⊥) → ((r : Rec) → x.entry.what ≡ what.Dropped r → ⊥) → (x.entry.what ≡ what.Died → ⊥)
-    → (x.entry.what ≡ what.Returned → ⊥) → TellsLocal p held brought m → TellsLocal p held brought (next_moment m x)
-other_local p held brought m x a b c d e f h =
-    let kind = other_kind x.entry.what a b c d e f in
-    record {
-      views = same_told p held m x kind.1 h.views;
-      came = brought_same p brought m x kind.0 h.came;
-    }
-
-pub none_local : (p : Params) (held brought : List Held) → held ≡ [] → brought ≡ []
-    → TellsLocal p held brought opening
-none_local p held brought a b = rw (a, b) (record {
-  views = nothing_told p;
-  came = λ n t visit. ((λ h. absurd (false≢true h)), (λ h. absurd h));
-})
+pub opening_brought : (p : Params) (brought : List Held) → brought ≡ [] → TellsBrought p brought opening
+opening_brought p brought is = rw is (λ n t visit. ((λ h. absurd (false≢true h)), (λ h. absurd h)))

@@ -17,7 +17,6 @@ use Rattle.run_model.specs.Parts.{is_from_before}
 use Rattle.audit_frame.specs.Records.{is_same}
 use Rattle.audit_frame.specs.declared.records.Held.{Held}
 use Rattle.audit_views.specs.Standing.{has_record}
-use Rattle.audit_views.specs.Views.{TellsRecords}
 
 -- ---- what is brought
 
@@ -49,11 +48,6 @@ abbrev pub TellsBrought : Params → List Held → Moment → Type 0
 TellsBrought p brought m =
     (c : ℕ) (t : Tenancy) (visit : ℕ)
     → IsTrue (has_record c (own_of t visit) brought) ↔ AnyByRecursion (λ e. BringsAt p c t visit e.what) (m.journal c)
-
--- tables tell the views, and what was brought
-pub record TellsLocal (p : Params) (held brought : List Held) (m : Moment) : Type 0 where
-  pub views : TellsRecords p held m
-  pub came : TellsBrought p brought m
 
 -- ---- how an entry is judged
 

@@ -1,4 +1,4 @@
-//! Walks along the log of a run that decide whether each cub's view is part of one schedule, and whether what a cub takes and
+//! A walk along the log of a run that decides whether each cub's view is part of one schedule, and whether what a cub takes and
 //! sends follows from what it has.
 #![tactic(auto)]
 
@@ -9,5 +9,4 @@ pub mod rows;
 mod seated;
 mod views;
 
-pub use local::first_not_local;
-pub use views::first_stray_view;
+pub use views::first_false_view;

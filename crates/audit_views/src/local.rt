@@ -1,5 +1,5 @@
 //! Whether what each cub takes and which viewer states it sends follows from what it has.
-ghost use Rattle.std.specs.Prelude.{[], ◌≡◌, ◌↔◌, ◌+◌, ◌<◌, ◌&&◌, nat_le, ◌||◌, ℕ, IsTrue, OnOk, IfOk};
+ghost use Rattle.std.specs.Prelude.{◌≡◌, ◌↔◌, ◌+◌, ◌<◌, ◌&&◌, nat_le, ◌||◌, ℕ, IsTrue, OnOk};
 ghost use Rattle.tiger_base.specs.declared.number.LinkNo.{LinkNo};
 ghost use Rattle.tiger_base.specs.declared.tenancy.Rec.{Rec};
 ghost use Rattle.tiger_base.specs.Records.{own_of};
@@ -8,127 +8,79 @@ ghost use Rattle.slot_plan.specs.Times.{cub_of, first_due};
 ghost use Rattle.node_kit.specs.Links.{links_of, ends_of};
 ghost use Rattle.node_kit.specs.declared.journal.What.TheVariants as what;
 ghost use Rattle.run_model.specs.Moments.{Moment, next_moment};
-ghost use Rattle.run_model.specs.Parts.{EntriesAreLocal, IsForCub, IsLocal, IsLocalEntry, IsLocalRecord, is_from_before};
-ghost use Rattle.audit_frame.specs.First.{Decides};
-ghost use Rattle.audit_frame.specs.Lines.{noted_line, told_by};
+ghost use Rattle.run_model.specs.Parts.{IsForCub, IsLocal, IsLocalEntry, IsLocalRecord, is_from_before};
+ghost use Rattle.audit_frame.specs.Lines.{noted_line};
 ghost use Rattle.audit_frame.specs.Records.{is_same};
 ghost use Rattle.audit_views.specs.Standing.{has_record};
-ghost use Rattle.audit_views.specs.Local.{TellsLocal, has_by, is_before, is_soon, note_brings, state_brings};
+ghost use Rattle.audit_views.specs.Local.{TellsBrought, has_by, is_before, is_soon, note_brings, state_brings};
+ghost use Rattle.audit_views.specs.Views.{TellsRecords};
 
-use crate::cubs::take_record;
-use audit_frame::{By, Line, Records, line_at};
+use audit_frame::{By, Line, Records};
 use node_kit::{LinkTable, What};
 use slot_plan::Plan;
-use std::alloc::Global;
 use tiger_base::{
     Kind, LinkNo, Micros, NoMemory, NodeNo, Note, Rec, SlotNo, State, Tenancy, Visit,
 };
 
-/// What is kept of the entries so far: the records in the views of the cubs, and what was brought to each cub, as own records
-/// of the visits that were named.
-#[derive(Drop)]
-struct SoFar {
-    records: Records,
-    brought: Records,
-}
-
-/// The first entry of a log in which a cub takes a record that it may not take, or sends a viewer state of which it has no
-/// record; `None` if there is none. Each entry costs the logarithm of the number of records, and a death or a return a look at
-/// each.
-///
-/// `NoMemory` is the only error.
-pub fn first_not_local<'a>(
-    alloc: Global,
+/// Whether an entry is local, by the records in the views of the cubs and by what was brought to each cub before it. It costs the
+/// logarithm of the number of records.
+pub(crate) fn is_local<'a>(
     plan: &Plan,
-    log: &[Line<'a>],
-) -> Result<Option<usize>, NoMemory>
-    ensures { IfOk result (Decides (EntriesAreLocal plan.now.params) (told_by log.now)) }
+    records: &Records,
+    brought: &Records,
+    line: &Line<'a>,
+) -> bool
+    ensures { (m : Moment) → TellsRecords plan.now.params records.now m
+        → TellsBrought plan.now.params brought.now m
+        → IsTrue result ↔ IsLocal plan.now.params m (noted_line line.now) }
 {
-    let mut so_far = SoFar::new(alloc);
-    for i in 0..log.len() {
-        let line = line_at(log, i);
-        if !so_far.allows(plan, &line) {
-            return Ok(Some(i));
-        }
-        so_far.take(plan, &line)?;
+    if line.node.0 as u64 >= plan.params.cubs {
+        return true;
     }
-    Ok(None)
+    match line.entry.what {
+        What::Took(r) => may_take(plan, brought, line.node, line.entry.stamp.reading, &r),
+        What::Sent(_, note) => may_send(records, line.node, &note),
+        _ => true,
+    }
 }
 
-impl SoFar {
-    /// Nothing is known yet.
-    fn new(alloc: Global) -> SoFar
-        ensures records { result.records ≡ [] }
-        ensures brought { result.brought ≡ [] }
-    {
-        SoFar {
-            records: Records::new(alloc),
-            brought: Records::new(alloc),
-        }
-    }
+/// Whether a cub may take a record at a reading.
+fn may_take(plan: &Plan, brought: &Records, cub: NodeNo, reading: Micros, r: &Rec) -> bool
+    requires { cub.0 < plan.now.params.cubs }
+    ensures { (m : Moment) → TellsBrought plan.now.params brought.now m
+        → IsTrue result ↔ IsLocalRecord plan.now.params m cub.0 reading r.now }
+{
+    let mine = is_for_cub(plan, cub, r);
+    let came = has_by(brought, cub, &r.tenancy, r.visit);
+    let soon = is_soon(plan, reading, r);
+    are_three(mine, came, soon)
+}
 
-    /// Whether an entry is local, behind those so far.
-    fn allows<'a>(&self, plan: &Plan, line: &Line<'a>) -> bool
-        ensures { (m : Moment)
-            → TellsLocal plan.now.params self.now.records self.now.brought m
-            → IsTrue result ↔ IsLocal plan.now.params m (noted_line line.now) }
-    {
-        if line.node.0 as u64 >= plan.params.cubs {
-            return true;
-        }
-        match line.entry.what {
-            What::Took(r) => self.may_take(plan, line.node, line.entry.stamp.reading, &r),
-            What::Sent(_, note) => self.may_send(line.node, &note),
-            _ => true,
-        }
+/// Whether a cub may send a note.
+fn may_send(records: &Records, cub: NodeNo, note: &Note) -> bool
+    ensures { (p : Params) (m : Moment) (reading : ℕ) (link : LinkNo) → cub.0 < p.cubs
+        → TellsRecords p records.now m
+        → IsTrue result ↔ IsLocalEntry p m cub.0 reading (what.Sent link note.now) }
+{
+    match note {
+        Note::ViewerState(state) => has_by(records, cub, &state.tenancy, state.visit),
+        _ => true,
     }
+}
 
-    /// Whether a cub may take a record at a reading.
-    fn may_take(&self, plan: &Plan, cub: NodeNo, reading: Micros, r: &Rec) -> bool
-        requires { cub.0 < plan.now.params.cubs }
-        ensures { (m : Moment)
-            → TellsLocal plan.now.params self.now.records self.now.brought m
-            → IsTrue result ↔ IsLocalRecord plan.now.params m cub.0 reading r.now }
-    {
-        let mine = is_for_cub(plan, cub, r);
-        let came = has_by(&self.brought, cub, &r.tenancy, r.visit);
-        let soon = is_soon(plan, reading, r);
-        are_three(mine, came, soon)
-    }
-
-    /// Whether a cub may send a note.
-    fn may_send(&self, cub: NodeNo, note: &Note) -> bool
-        ensures { (p : Params) (m : Moment) (reading : ℕ) (link : LinkNo) → cub.0 < p.cubs
-            → TellsLocal p self.now.records self.now.brought m
-            → IsTrue result ↔ IsLocalEntry p m cub.0 reading (what.Sent link note.now) }
-    {
-        match note {
-            Note::ViewerState(state) => has_by(&self.records, cub, &state.tenancy, state.visit),
-            _ => true,
-        }
-    }
-
-    /// Takes one more entry.
-    fn take<'a>(&mut self, plan: &Plan, line: &Line<'a>) -> Result<(), NoMemory>
-        ensures { OnOk result ((m : Moment)
-            → TellsLocal plan.now.params self.old.records self.old.brought m
-            → TellsLocal plan.now.params self.new.records self.new.brought
-            (next_moment m (noted_line line.now))) }
-    {
-        match line.entry.what {
-            What::Put(t) => keep_own(&mut self.brought, line.node, &t, t.first),
-            What::Got(link, note) => keep_note(&mut self.brought, plan, line.node, link, &note),
-            What::Took(r) => take_record(&mut self.records, plan, line.node, &r),
-            What::Dropped(r) => {
-                self.records.remove(By::Instance, line.node, &r);
-                Ok(())
-            }
-            What::Died | What::Returned => {
-                self.records.clear(line.node);
-                Ok(())
-            }
-            _ => Ok(()),
-        }
+/// Keeps what one more entry brings its node, as own records of the visits that are named.
+pub(crate) fn keep_brought<'a>(
+    brought: &mut Records,
+    plan: &Plan,
+    line: &Line<'a>,
+) -> Result<(), NoMemory>
+    ensures { OnOk result ((m : Moment) → TellsBrought plan.now.params brought.old m
+        → TellsBrought plan.now.params brought.new (next_moment m (noted_line line.now))) }
+{
+    match line.entry.what {
+        What::Put(t) => keep_own(brought, line.node, &t, t.first),
+        What::Got(link, note) => keep_note(brought, plan, line.node, link, &note),
+        _ => Ok(()),
     }
 }
 

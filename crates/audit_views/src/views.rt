@@ -1,18 +1,21 @@
-//! Whether each cub's view is part of one schedule, at every moment of a log.
-ghost use Rattle.std.specs.Prelude.{[], ◌∷◌, ◌++◌, ◌≡◌, ◌↔◌, ◌-◌, ◌<◌, ◌≤◌, ◌==◌, ◌&&◌, ◌||◌, not, nat_le, nat_lt, length, slice_index_or, ℕ, Some, IsTrue, OnOk, IfOk, ◌⊎◌, option_map, if◌then◌else◌};
+//! Whether each cub's view is part of one schedule, at every moment of a log, and what cubs take and send follows from what they
+//! have.
+ghost use Rattle.std.specs.Prelude.{[], ◌∷◌, ◌++◌, ◌≡◌, ◌↔◌, ◌-◌, ◌<◌, ◌≤◌, ◌==◌, ◌&&◌, ◌||◌, not, nat_le, length, slice_index_or, ℕ, Some, IsTrue, OnOk, IfOk, ◌⊎◌, option_map, if◌then◌else◌};
 ghost use Rattle.std.specs.List.Sorted.{IsNonDecreasingBy};
 ghost use Rattle.tiger_base.specs.declared.number.Instance.{Instance};
 ghost use Rattle.run_facts.specs.Accounts.{Rising};
 ghost use Rattle.run_facts.specs.Order.{beat_of};
 ghost use Rattle.run_model.specs.Moments.{Moment, next_moment};
-ghost use Rattle.run_model.specs.Parts.{IsPart, ViewsArePart, ViewsAreAlwaysPart};
+ghost use Rattle.run_model.specs.Parts.{IsPart, ViewsArePart};
 ghost use Rattle.audit_frame.specs.First.{Decides};
 ghost use Rattle.audit_frame.specs.Lines.{noted_line, told_by};
 ghost use Rattle.audit_frame.specs.Tables.{mark_under, seat_by, seat_under, unless_by};
+ghost use Rattle.audit_views.specs.Verdicts.{ArePartAndLocal};
 ghost use Rattle.audit_views.specs.Views.{TellsViews, IsInstancePart, IsTakenPart, LateArePart, RunsOutUpTo, Touches, is_in_time, is_in_view, is_marked, of_instance};
 ghost use Rattle.audit_views.specs.declared.views.Stopped.{Stopped};
 
 use crate::cubs::take_record;
+use crate::local::{is_local, keep_brought};
 use crate::seated::{are_seated, have_none, is_seated};
 use audit_frame::{By, Line, Marks, Records, Seats, held_by, is_within, line_at};
 use node_kit::What;
@@ -40,25 +43,30 @@ struct SoFar {
     beat: Beat,
 }
 
-/// The first entry of a log after which some cub's view has a record that is no part of the schedule; `None` if there is
-/// none. No entry of the log stands behind one of a later beat. Each entry costs the logarithm of the number of records
-/// and of that of stops; a Put a look at each record of the instance that had its slot; a stop that runs out the logarithm of
-/// the number of records; and a death or a return a look at each record.
+/// The first entry of a log after which some cub's view has a record that is no part of the schedule, or in which a cub takes a
+/// record that it may not take, or sends a viewer state of which it has no record; `None` if there is none. No entry of the log
+/// stands behind one of a later beat. Each entry costs the logarithm of the number of records and of that of stops; a Put a look
+/// at each record of the instance that had its slot; a stop that runs out the logarithm of the number of records; and a death or
+/// a return a look at each record.
 ///
 /// `NoMemory` is the only error.
-pub fn first_stray_view<'a>(
+pub fn first_false_view<'a>(
     alloc: Global,
     plan: &Plan,
     log: &[Line<'a>],
 ) -> Result<Option<usize>, NoMemory>
     requires { Rising beat_of (told_by log.now) }
-    ensures { IfOk result (Decides (ViewsAreAlwaysPart plan.now.params) (told_by log.now)) }
+    ensures { IfOk result (Decides (ArePartAndLocal plan.now.params) (told_by log.now)) }
 {
     let mut so_far = SoFar::new(alloc);
+    let mut brought = Records::new(alloc);
     for i in 0..log.len() {
         let line = line_at(log, i);
+        let local = is_local(plan, &so_far.records, &brought, &line);
+        keep_brought(&mut brought, plan, &line)?;
         let part = so_far.step(plan, &line)?;
-        if !part {
+        let fine = are_both(local, part);
+        if !fine {
             return Ok(Some(i));
         }
     }
@@ -275,6 +283,12 @@ fn is_same_beat(before: Beat, beat: Beat) -> bool
     ensures { IsTrue result → before ≡ beat }
 {
     before == beat
+}
+
+fn are_both(local: bool, part: bool) -> bool
+    ensures { result ≡ (local && part) }
+{
+    local && part
 }
 
 fn are_three(taken: bool, in_place: bool, in_time: bool) -> bool

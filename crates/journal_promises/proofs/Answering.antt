@@ -9,9 +9,9 @@ use Rattle.audit_read.specs.Writable.{IsWritable}
 use Rattle.audit_read.specs.declared.read.TextStop.{TextStop}
 use Rattle.audit_read.specs.declared.read.TextStop.TheVariants as stops
 use Rattle.audit_verdict.specs.Clauses.{MeetsAllClauses}
-use Rattle.audit_verdict.specs.Verdicts.{IsVerdictOn}
-use Rattle.audit_verdict.specs.declared.verdict.Verdict.{Verdict}
-use Rattle.audit_verdict.specs.declared.verdict.Verdict.TheVariants as verdict
+use Rattle.audit_verdict.specs.Judgements.{IsJudgementOn}
+use Rattle.audit_verdict.specs.declared.judgement.Judgement.{Judgement}
+use Rattle.journal_promises.specs.Promises.{IsYes}
 use Rattle.journal_promises.proofs.Kept.{gets_yes}
 use Rattle.journal_promises.proofs.Same.{same_kept}
 
@@ -26,6 +26,6 @@ read_whole k bytes (Ok j) writable text cause = tt
 read_whole k bytes (Err (stops.Fault line)) writable text cause = absurd (cause.none k writable text)
 read_whole k bytes (Err stops.NoMemory) writable text cause = refl
 
-pub judged_yes : (k : Kept) (found : Result Verdict NoMemory) → MeetsAllClauses k → IfOk found (IsVerdictOn k) → IfOk found (λ v. v ≡ verdict.Yes)
+pub judged_yes : (k : Kept) (found : Result Judgement NoMemory) → MeetsAllClauses k → IfOk found (IsJudgementOn k) → IfOk found IsYes
 judged_yes k (Ok v) meets says = gets_yes k meets v says
 judged_yes k (Err e) meets says = tt

@@ -11,7 +11,7 @@ use Rattle.tiger_journal.specs.Answers.{IsNamedRun}
 use Rattle.audit_text.specs.Texts.{text_of}
 use Rattle.audit_read.specs.Writable.{IsWritable}
 use Rattle.audit_verdict.specs.Clauses.{MeetsAllClauses}
-use Rattle.audit_verdict.specs.declared.verdict.Verdict.TheVariants as verdict
+use Rattle.audit_verdict.specs.declared.judgement.Judgement.TheVariants as judgement
 use Rattle.tiger_audit.proofs.Meets.{meets_clause}
 use Rattle.journal_promises.specs.Numbers.{HasNumbers}
 use Rattle.journal_promises.specs.Runs.{HasReadings}
@@ -53,8 +53,8 @@ pub read_back : (k : Kept) → IsWritable k → IsReadBack k
 read_back k writable j other same = same_kept j k other writable same
 
 pub gets_yes : (k : Kept) → MeetsAllClauses k → GetsYes k
-gets_yes k meets verdict.Yes says = refl
-gets_yes k meets (verdict.No c here) says = absurd (says.broken (meets_clause k c meets))
+gets_yes k meets (judgement.Yes counts) says = tt
+gets_yes k meets (judgement.No c here) says = absurd (says.broken (meets_clause k c meets))
 
 pub passes : (k : Kept) → IsWritable k → MeetsAllClauses k → PassesAudit k
 passes k writable meets short = record {

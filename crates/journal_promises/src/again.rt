@@ -4,10 +4,10 @@ ghost use Rattle.audit_read.specs.Writable.{IsWritable};
 ghost use Rattle.audit_read.specs.declared.read.TextStop.TheVariants as stops;
 ghost use Rattle.audit_text.specs.Texts.{text_of};
 ghost use Rattle.audit_verdict.specs.Clauses.{MeetsAllClauses};
-ghost use Rattle.audit_verdict.specs.declared.verdict.Verdict.TheVariants as verdict;
+ghost use Rattle.journal_promises.specs.Promises.{IsYes};
 
 use audit_read::{TextStop, read_kept};
-use audit_verdict::{Verdict, audit};
+use audit_verdict::{Judgement, judge};
 use node_kit::Kept;
 use std::alloc::Global;
 use tiger_base::NoMemory;
@@ -23,10 +23,10 @@ pub fn read_again(alloc: Global, kept: &Kept, bytes: &[u8]) -> Result<Kept, Text
 }
 
 /// Judges what was kept, as `audit` does: the answer is Yes. `NoMemory` is the only error.
-pub fn judge_again(alloc: Global, kept: &Kept) -> Result<Verdict, NoMemory>
+pub fn judge_again(alloc: Global, kept: &Kept) -> Result<Judgement, NoMemory>
     requires writable { IsWritable kept.now }
     requires clauses { MeetsAllClauses kept.now }
-    ensures { IfOk result (λ found. found ≡ verdict.Yes) }
+    ensures { IfOk result IsYes }
 {
-    audit(alloc, kept)
+    judge(alloc, kept)
 }

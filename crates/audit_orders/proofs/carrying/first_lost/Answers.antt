@@ -2,7 +2,7 @@ use Rattle.std.proofs.Common.{List, sym, subst, take, ◌++◌}
 use Rattle.node_kit.specs.declared.journal.Entry.{Entry}
 use Rattle.audit_orders.specs.Carrying.{all_entries, TellsSent, NoneIsLost, IsLostIn}
 use Rattle.audit_orders.proofs.Posting.{if_some, if_none, none_counted, none_lost, entries_more, entries_all}
-use Rattle.audit_orders.proofs.Delivering.{lost_found}
+use Rattle.audit_orders.proofs.Earliest.{nowhere_stray, nowhere_wrong, lost_found}
 use Rattle.audit_orders.proofs.carrying.first_lost.Goals as goal
 
 pub loop-n-init : goal.loop-n-init
@@ -18,9 +18,10 @@ returns-in-Some c =
     let got = c.args.got.now in
     let front = all_entries (take c.loop-n.n journals) in
     let journal = c.journal_at.result.now in
-    lost_found course journals got c.loop-n.n c.in-Some.place journal c.requires.got c.journal_at.ensures
+    let found = lost_found course journals got c.loop-n.n c.in-Some.place journal (λ s. (c.requires.got s).count) c.journal_at.ensures
     (if_some _ (TellsSent course c.lost_in.new.sent (front ++ journal) × NoneIsLost course got (front ++ journal)) (IsLostIn course got front journal)
-    c.in-Some.place (c.in_ok-place.ensures front c.loop-n.invariant.sent c.loop-n.invariant.none) c.in-Some.is)
+    c.in-Some.place (c.in_ok-place.ensures front c.loop-n.invariant.sent c.loop-n.invariant.none) c.in-Some.is) in
+    (nowhere_stray course journals c.requires.at_ends, nowhere_wrong course journals (λ s. (c.requires.got s).first), found)
 
 pub loop-n-preserved : goal.loop-n-preserved
 loop-n-preserved c =

@@ -1,7 +1,8 @@
 use Rattle.std.proofs.Common.{arith}
 use Rattle.audit_orders.specs.Carrying.{AreAtEnds, IsStrayIn}
 use Rattle.audit_orders.proofs.Posting.{if_some, if_none}
-use Rattle.audit_orders.proofs.Delivering.{stray_found, ends_more, all_ends}
+use Rattle.audit_orders.proofs.Delivering.{ends_more, all_ends}
+use Rattle.audit_orders.proofs.Earliest.{stray_found}
 use Rattle.audit_orders.proofs.carrying.first_stray.Goals as goal
 
 pub loop-n-init : goal.loop-n-init
@@ -11,6 +12,7 @@ pub returns-in-Some : goal.returns-in-Some
 returns-in-Some c =
     let p = c.args.course.now.plan.params in
     stray_found c.args.course.now c.args.journals.now c.loop-n.n c.in-Some.place c.journal_at.result.now c.journal_at.ensures
+    c.loop-n.invariant.at_ends
     (if_some c.stray_in.result (AreAtEnds p c.loop-n.n c.journal_at.result.now) (IsStrayIn p c.loop-n.n c.journal_at.result.now) c.in-Some.place
     (c.stray_in.ensures p c.requires.links) c.in-Some.is)
 

@@ -2,7 +2,7 @@ use Rattle.std.proofs.Common.{List, sym, subst, take, ◌++◌}
 use Rattle.node_kit.specs.declared.journal.Entry.{Entry}
 use Rattle.audit_orders.specs.Carrying.{all_entries, TellsGot, IsWrongIn}
 use Rattle.audit_orders.proofs.Posting.{if_some, if_none, none_got, entries_more, entries_all}
-use Rattle.audit_orders.proofs.Delivering.{wrong_found}
+use Rattle.audit_orders.proofs.Earliest.{nowhere_stray, wrong_found}
 use Rattle.audit_orders.proofs.carrying.get_all.Goals as goal
 
 pub loop-n-init : goal.loop-n-init
@@ -15,9 +15,10 @@ returns-in-Some c =
     let all = all_entries journals in
     let front = all_entries (take c.loop-n.n journals) in
     let journal = c.journal_at.result.now in
-    wrong_found course journals c.loop-n.n c.in-Some.place journal c.journal_at.ensures
+    let found = wrong_found course journals c.loop-n.n c.in-Some.place journal c.journal_at.ensures
     (if_some _ (TellsGot course all c.get_journal.new.got (front ++ journal)) (IsWrongIn course all front journal) c.in-Some.place
-    (c.in_ok-place.ensures all front c.requires.post c.loop-n.invariant.got) c.in-Some.is)
+    (c.in_ok-place.ensures all front c.requires.post c.loop-n.invariant.got) c.in-Some.is) in
+    (nowhere_stray course journals c.requires.at_ends, found)
 
 pub loop-n-preserved : goal.loop-n-preserved
 loop-n-preserved c =

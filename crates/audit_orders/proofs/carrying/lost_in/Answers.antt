@@ -16,6 +16,7 @@ returns-then-not-is_got_or_lost c = λ front h k.
     lost_here c.args.course.now c.args.got.now _ front c.args.journal.now c.loop-i.i c.entry_at-e.result c.loop-i-test.true
     c.entry_at-e.ensures (c.loop-i.invariant.sent front h)
     (λ fine. both_ways c.is_got_or_lost.result c.if-not-is_got_or_lost.true (c.is_got_or_lost.ensures.1 fine))
+    (c.loop-i.invariant.none front h k)
 
 pub loop-i-preserved : goal.loop-i-preserved
 loop-i-preserved c =

@@ -14,6 +14,7 @@ pub returns-then-not-is_at_its_end : goal.returns-then-not-is_at_its_end
 returns-then-not-is_at_its_end c = λ p is.
     stray_here p c.args.node.0 c.args.journal.now c.loop-i.i c.entry_at-e.result c.loop-i-test.true c.entry_at-e.ensures
     (ap (λ (t : Links). at_its_end t c.args.node.0 c.entry_at-e.result.what) (sym is) ∙ sym c.is_at_its_end.ensures ∙ c.if-not-is_at_its_end.true)
+    (c.loop-i.invariant.at_ends p is)
 
 pub loop-i-preserved : goal.loop-i-preserved
 loop-i-preserved c = record {

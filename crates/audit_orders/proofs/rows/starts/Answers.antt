@@ -1,10 +1,10 @@
-use Rattle.std.proofs.Common.{◌≡◌, ℕ, Bool, true, false, nat_lt, cond, List, [], ◌∷◌, ◌++◌, Some, refl, sym, ap, subst, arith}
+use Rattle.std.proofs.Common.{◌≡◌, ℕ, zero, suc, Bool, true, false, nat_lt, cond, List, [], ◌∷◌, ◌++◌, length, Some, refl, sym, ap, subst, arith}
 use Rattle.std.specs.Prelude.{◌==◌}
 use Rattle.std.proofs.lemmas.Bool.{eqb-true, false≢true}
 use Rattle.slot_plan.specs.Samples.{small}
 use Rattle.run_facts.specs.Commanded.{Dispatch, starts_sent, starts_ordered}
 use Rattle.run_model.specs.Samples.{ask, ordered}
-use Rattle.audit_orders.specs.Commanding.{starts_due}
+use Rattle.audit_orders.specs.Commanding.{AreSentBelow, IsFrontOf, starts_due}
 use Rattle.audit_orders.specs.Samples.{start_to}
 use Rattle.audit_orders.proofs.rows.starts.Goals as goal
 
@@ -37,9 +37,26 @@ unfolding starts_sent starts_ordered
 returns-clause-turned c = record {
   inside = omega arith;
   beat = 0;
+  lower_beats = λ a low. absurd (omega (arith, low));
   before = (starts_due small 10 ordered 0, refl);
   with_it = λ f. false≢true (sym (ap flag_of f.1));
 }
+
+-- how many starts there are
+abbrev count_of : List Dispatch → ℕ
+count_of ds = length ds
+
+-- what was not due in beat 3 is not said to be wrong, since what was due in beat 0 was not sent
+pub returns-clause-not_the_later_beat : goal.returns-clause-not_the_later_beat
+unfolding starts_sent starts_ordered
+returns-clause-not_the_later_beat c h = by h.beat h.lower_beats h.with_it
+  where
+    by : (b : ℕ) → AreSentBelow small 10 ordered (start_to 3 0 false ∷ []) b
+        → (IsFrontOf (starts_sent small b (start_to 3 0 false ∷ [])) (starts_due small 10 ordered b) → ⊥) → ⊥
+    by zero lower wrong = wrong (starts_due small 10 ordered 0, refl)
+    by (suc b) lower wrong =
+        let none = ap count_of (lower 0 (omega arith)) in
+        omega (arith, none)
 
 pub returns-clause-not_sent : goal.returns-clause-not_sent
 unfolding starts_sent starts_ordered
@@ -47,6 +64,7 @@ returns-clause-not_sent c = record {
   order = record { beat = 0; what = _ };
   here = refl;
   early = omega arith;
+  lower_beats = λ a low. absurd (omega (arith, low));
   sent = (starts_due small 10 ordered 0, refl);
   lower = ([], refl);
   lacks = λ f. let none = f.1 in absurd (cc none);
@@ -58,6 +76,7 @@ returns-clause-half_sent c = record {
   order = record { beat = 0; what = _ };
   here = refl;
   early = omega arith;
+  lower_beats = λ a low. absurd (omega (arith, low));
   sent = (second ∷ [], refl);
   lower = (starts_sent small 0 (start_to 0 0 false ∷ []), refl);
   lacks = λ f. let one = f.1 in absurd (cc one);

@@ -1,7 +1,7 @@
 use Rattle.std.proofs.Common.{List, ◌++◌, ap}
 use Rattle.audit_orders.specs.Starts.{wanted_from}
 use Rattle.audit_orders.specs.declared.starts.Wanted.{Wanted}
-use Rattle.audit_orders.proofs.Starting.{wanted_next, wanted_end}
+use Rattle.audit_orders.proofs.Comparing.{wanted_next, wanted_end}
 use Rattle.audit_orders.proofs.starts.wanted_of.Goals as goal
 
 pub loop-j-init : goal.loop-j-init

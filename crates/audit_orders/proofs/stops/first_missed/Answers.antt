@@ -1,8 +1,9 @@
 use Rattle.std.proofs.Common.{List, take, sym, subst, ◌∙◌}
 use Rattle.std.proofs.lemmas.List.{take_all}
 use Rattle.node_kit.specs.declared.course.Order.{Order}
+use Rattle.audit_orders.specs.Stops.{NoneIsMissed}
 use Rattle.audit_orders.proofs.Walks.{one_more}
-use Rattle.audit_orders.proofs.Stopping.{NoneIsMissed, no_order, none_more, order_there}
+use Rattle.audit_orders.proofs.Stopping.{no_order, none_more, order_there}
 use Rattle.audit_orders.proofs.stops.first_missed.Goals as goal
 
 pub loop-i-init : goal.loop-i-init
@@ -13,6 +14,7 @@ returns-then-is_missed c = (
   c.order_at-order.result,
   order_there c.args.orders.now c.loop-i.i c.order_at-order.result c.loop-i-test.true c.order_at-order.ensures,
   sym c.is_missed.ensures ∙ c.if-is_missed.true,
+  c.loop-i.invariant.none,
 )
 
 pub loop-i-preserved : goal.loop-i-preserved

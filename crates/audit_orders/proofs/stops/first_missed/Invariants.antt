@@ -1,5 +1,5 @@
 use Rattle.std.proofs.Common.{take}
-use Rattle.audit_orders.proofs.Stopping.{NoneIsMissed}
+use Rattle.audit_orders.specs.Stops.{NoneIsMissed}
 use Rattle.audit_orders.proofs.stops.first_missed.Given as goal
 
 -- of the orders so far none has a stop that is missed

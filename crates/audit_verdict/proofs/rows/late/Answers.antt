@@ -14,6 +14,8 @@ use Rattle.audit_orders.specs.declared.carrying.Uncarried.TheVariants as uncarri
 use Rattle.audit_orders.specs.declared.flaw.Flaw.TheVariants as flaw
 use Rattle.audit_orders.specs.declared.timing.Untimed.TheVariants as untimed
 use Rattle.audit_orders.proofs.Denying.{untimed_denies}
+use Rattle.audit_orders.proofs.Earliest.{none_wrong_before, nowhere_stray}
+use Rattle.audit_orders.proofs.OnRows.{ends_if}
 use Rattle.audit_orders.proofs.Refuting.{uncarried_denies}
 use Rattle.audit_verdict.specs.Clocks.{ShowClocks, ShowsClocks}
 use Rattle.audit_verdict.proofs.Clauses.{none_before}
@@ -29,14 +31,21 @@ with_entry k plan = kept k plan 10 of_none [] (writes 2 20000 ∷ writes 3 34001
 got_late : (k : Kept) (plan : IsPlan small)
     → IsUncarriedAt (with_message k plan).course (with_message k plan).journals (uncarried.Got (record { 0 = 17 }) 0)
 unfolding on_samples
-got_late k plan = record {
-  journal = (gets 0 6 Heartbeat).entry ∷ [];
-  here = refl;
-  inside = omega arith;
-  stream = 32;
-  before = tt;
-  with_it = λ h. let late = h.2 in omega (arith, late);
-}
+got_late k plan = (
+  nowhere_stray (with_message k plan).course (with_message k plan).journals (ends_if small (with_message k plan).journals refl),
+  record {
+    here = record {
+      journal = (gets 0 6 Heartbeat).entry ∷ [];
+      here = refl;
+      inside = omega arith;
+      stream = 32;
+      before = tt;
+      with_it = λ h. let late = h.2 in omega (arith, late);
+    };
+    none_before = none_wrong_before (with_message k plan).course (with_message k plan).journals 17 0 ((gets 0 6 Heartbeat).entry ∷ []) refl
+        (λ s. tt);
+  },
+)
 
 pub returns-clause-message : goal.returns-clause-message
 returns-clause-message c k plan = record {

@@ -12,7 +12,7 @@ use Rattle.audit_orders.proofs.Denying.{uncommanded_denies}
 use Rattle.audit_verdict.specs.Clauses.{MeetsClause, number_of_clause}
 use Rattle.audit_verdict.specs.declared.clause.Clause.{Clause}
 use Rattle.audit_verdict.specs.declared.clause.Clause.TheVariants as clause
-use Rattle.audit_verdict.proofs.Silent.{silent}
+use Rattle.audit_verdict.proofs.Silent.{none_gone, silent}
 use Rattle.audit_verdict.proofs.rows.unsent.Goals as goal
 
 abbrev run : Kept → IsPlan small → Kept
@@ -22,12 +22,14 @@ not_sent : (k : Kept) (plan : IsPlan small)
     → IsUncommandedAt small 1 (clock_of (run k plan).course) ordered (run k plan).journals (uncommanded.Unsent 0)
 unfolding starts_sent starts_ordered
 not_sent k plan = (
+  λ n journal other at. none_gone (run k plan).journals n journal refl at,
   [],
   refl,
   record {
     order = record { beat = 0; what = _ };
     here = refl;
     early = omega arith;
+    lower_beats = λ a low. absurd (omega (arith, low));
     sent = (starts_due small 1 ordered 0, refl);
     lower = ([], refl);
     lacks = λ f. let none = f.1 in absurd (cc none);

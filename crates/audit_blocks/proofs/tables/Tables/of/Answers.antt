@@ -1,14 +1,15 @@
-use Rattle.audit_blocks.proofs.Noting.{taken_next, taken_end}
+use Rattle.std.proofs.Common.{[], refl}
+use Rattle.audit_blocks.proofs.Noting.{all_taken, journal_taken}
 use Rattle.audit_blocks.proofs.tables.Tables.of.Goals as goal
 
-pub loop-line-init : goal.loop-line-init
-loop-line-init c = record { told = c.new-tables.ensures c.args.plan.now.params }
+pub loop-n-init : goal.loop-n-init
+loop-n-init c = record { told = ([], c.new-tables.ensures c.args.plan.now.params, refl) }
 
-pub loop-line-preserved : goal.loop-line-preserved
-loop-line-preserved c = record {
-  told = taken_next c.args.plan.now.params c.loop-line.line-index c.args.log.now _ _ _ c.loop-line-test.true c.in_ok-take.ensures
-      c.loop-line.invariant.told;
+pub loop-n-preserved : goal.loop-n-preserved
+loop-n-preserved c = record {
+  told = journal_taken c.args.plan.now.params c.loop-n.n c.args.journals.now c.index-journals-n.result _ _ c.loop-n-test.true
+      c.index-journals-n.is c.in_ok-take_journal.ensures c.loop-n.invariant.told;
 }
 
 pub returns : goal.returns
-returns c = taken_end c.args.plan.now.params c.loop-line.line-index c.args.log.now _ c.loop-line-test.false c.loop-line.invariant.told
+returns c = all_taken c.args.plan.now.params c.loop-n.n c.args.journals.now _ c.loop-n-test.false c.loop-n.invariant.told

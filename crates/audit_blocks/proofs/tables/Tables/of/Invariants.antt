@@ -1,10 +1,6 @@
-use Rattle.std.proofs.Common.{take}
-use Rattle.audit_frame.specs.Lines.{told_by}
-use Rattle.audit_blocks.specs.Told.{AreToldBy}
+use Rattle.audit_blocks.proofs.Noting.{HasTaken}
 use Rattle.audit_blocks.proofs.tables.Tables.of.Given as goal
 
--- the tables tell of the lines so far
-abbrev pub invariant-loop-line : goal.invariant-loop-line
-invariant-loop-line l = record {
-  told : AreToldBy l.plan.params (told_by (take l.line-index l.log)) l.tables;
-}
+-- the tables tell of the journals so far
+abbrev pub invariant-loop-n : goal.invariant-loop-n
+invariant-loop-n l = record { told : HasTaken l.plan.params l.n l.journals l.tables }
