@@ -1,16 +1,14 @@
-//! Runs a scenario on one thread, with no links and no workers between its nodes, and writes its
-//! report: what workers cost is measured beside it.
+//! Runs a scenario on one thread and writes its report, so that the cost of links and workers can be measured beside it.
 #![tactic(auto)]
 
-mod inputs;
 mod run;
 
-use inputs::{Inputs, read_inputs};
-use outside::{Sink, StdSink};
+use outside::{DirFiles, Sink, StdSink};
 use run::report_of_run;
 use std::alloc::Global;
 use std::env;
 use std::process::ExitCode;
+use tiger_input::{Inputs, read_inputs};
 
 /// The name of the scenario, which is the second word after the program's name, as in
 /// `tiger run NAME W`.
@@ -22,7 +20,10 @@ fn name_of(rt: &HostRuntime) -> Option<String> {
 /// Runs the scenario that is named, and writes its report; `None` if something stands in its way.
 fn done(rt: &HostRuntime, alloc: Global) -> Option<()> {
     let name = name_of(rt)?;
-    let Inputs { scenario, library } = read_inputs(rt, alloc, name.as_str())?;
+    let mut files = DirFiles::new(rt);
+    let Ok(Inputs { scenario, library }) = read_inputs(alloc, &mut files, name.as_str()) else {
+        return None;
+    };
     let text = report_of_run(alloc, scenario, &library).ok()?;
     StdSink::new(rt).put(text.as_slice()).ok()
 }
