@@ -123,9 +123,7 @@ def opened(seconds):
     try:
         yield Browser(answers, told, time.monotonic() + seconds)
     finally:
-        program.kill(running)
-        running.wait()
-        program.Interrupt.running.discard(running)
+        program.Interrupt.end(running)
         os.close(told)
         os.close(answers)
         shutil.rmtree(folder, ignore_errors=True)

@@ -133,12 +133,16 @@ def puts_are_fair(run):
     for moment, node, e in moments(run):
         if e.word == "put":
             t = tenancy_of(e.fields)
-            holder = moment.holder.get(t.slot)
-            free = holder is None or holder.last < t.first
-            if not (free and was_asked(run, t) and t.slot < run.plan.slots and puts.count(t.instance) <= 1
+            if not (is_free(moment, t) and was_asked(run, t) and t.slot < run.plan.slots and puts.count(t.instance) <= 1
                     and in_window(run, e.reading, t.slot, t.first) and may_put(run, moment, node, t.first)):
                 return False
     return True
+
+
+def is_free(moment, t):
+    """Whether the slot of a tenancy is free from its first visit on."""
+    holder = moment.holder.get(t.slot)
+    return holder is None or holder.last < t.first
 
 
 def was_asked(run, t):
@@ -155,16 +159,23 @@ def may_put(run, moment, node, visit):
 
 
 def views_are_part(run):
-    """5: Each record that a cub has is part of the schedule at each moment, and what it takes and tells follows from what it has."""
+    """5: Each record that a cub has is part of the schedule at each moment, and what it takes and tells follows from what it
+    has."""
+    return first_unlike(run) is None
+
+
+def first_unlike(run):
+    """The first entry, by its node and place in the journal, of which this is not so; None if it is so of each."""
     moment = Moment(run)
     for node, e in log_of(run):
+        place = node, len(moment.journal[node])
         if node < run.plan.cubs and not is_local(run, moment, node, e):
-            return False
+            return place
         moment.take(node, e)
         parts = all(is_part(run, moment, r) for cub in range(run.plan.cubs) for r in moment.records[cub])
         if not parts:
-            return False
-    return True
+            return place
+    return None
 
 
 def is_part(run, moment, r):
@@ -200,18 +211,19 @@ def brings(run, cub, r, e):
 
 def nobody_comes_back(run):
     """6: A stopped instance is put within the longest way at most, and taken or sent within a block play time at most."""
-    play, way = run.plan.play, run.plan.delay * run.plan.beat
-    for moment, _, e in moments(run):
-        span, v = None, None
-        if e.word == "put":
-            span, v = way, e.fields[0]
-        elif e.word == "took":
-            span, v = play, e.fields[0]
-        elif has_note(e, "sent", WHOLE, PIECE):
-            span, v = play, parcel_of(e).want.instance
-        if any(v == stopped and true_time(run, e.beat) > true_time(run, beat) + span for stopped, beat in moment.stops):
-            return False
-    return True
+    return not any(comes_back(run, moment, e) for moment, _, e in moments(run))
+
+
+def comes_back(run, moment, e):
+    """Whether an entry puts, takes or sends something of who was stopped too long before."""
+    span, v = run.plan.play, None
+    if e.word == "put":
+        span, v = run.plan.delay * run.plan.beat, e.fields[0]
+    elif e.word == "took":
+        v = e.fields[0]
+    elif has_note(e, "sent", WHOLE, PIECE):
+        v = parcel_of(e).want.instance
+    return any(v == stopped and true_time(run, e.beat) > true_time(run, beat) + span for stopped, beat in moment.stops)
 
 
 def are_served_once(run):
@@ -238,14 +250,14 @@ def beliefs_are_true(run):
 
 def failures_are_true(run):
     """9: The disk of a read that failed had got just that ask before, in a beat of one of its read faults."""
-    for moment, _, e in moments(run):
-        if e.word == "readfailed":
-            want = Want(*e.fields)
-            disk = (want.visit % run.disk_count + want.piece) % run.disk_count
-            asks = [f.beat for f in moment.journal[run.plan.cubs + disk] if has_note(f, "got", ASK) and want_of(f) == want]
-            if not any(fault.disk == disk and fault.start <= beat < fault.until for beat in asks for fault in run.faults):
-                return False
-    return True
+    return all(has_fault(run, moment, Want(*e.fields)) for moment, _, e in moments(run) if e.word == "readfailed")
+
+
+def has_fault(run, moment, want):
+    """Whether the disk of a read that failed had got just that ask before, in a beat of one of its read faults."""
+    disk = (want.visit % run.disk_count + want.piece) % run.disk_count
+    asks = [f.beat for f in moment.journal[run.plan.cubs + disk] if has_note(f, "got", ASK) and want_of(f) == want]
+    return any(fault.disk == disk and fault.start <= beat < fault.until for beat in asks for fault in run.faults)
 
 
 def are_in_turn(run):
@@ -257,6 +269,12 @@ def are_in_turn(run):
 
 def nobody_is_passed_over(run):
     """12: At each whole tick of a cub with a start that waits each visit of the disk that is in the window is taken."""
+    return first_passed_over(run) is None
+
+
+def first_passed_over(run):
+    """The beat and the cub of the first tick at which this is not so, and the last entry up to it, by its node and its place in
+    the journal, if there is one; None if it is so at each."""
     moment, entries, at = Moment(run), log_of(run), 0
     for beat in range(run.beats):
         for cub in range(run.plan.cubs):
@@ -264,8 +282,9 @@ def nobody_is_passed_over(run):
                 moment.take(*entries[at])
                 at += 1
             if ticks(run.life(cub), beat) and not is_patient(run, moment, cub, beat):
-                return False
-    return True
+                last = entries[at - 1][0] if at else None
+                return beat, cub, at and (last, len(moment.journal[last]) - 1)
+    return None
 
 
 def ticks(life, beat):

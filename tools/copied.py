@@ -12,6 +12,7 @@ import sys
 
 sys.dont_write_bytecode = True
 import program
+from crates import used_by
 
 NO_PROVER = 69
 
@@ -28,7 +29,7 @@ class Copy:
         self.kept = kept or os.path.join(folder, "kept")
         self.in_use = self.kept
         self.first = {}
-        self.below = read_crates()
+        self.below = used_by()
         self.kit = os.path.dirname(os.path.dirname(os.path.realpath(shutil.which("rt"))))
         shutil.copytree(os.path.join(program.TOP, "crates"), os.path.join(folder, "crates"), symlinks=True,
                         ignore=shutil.ignore_patterns("out"))
@@ -107,13 +108,6 @@ def read_edits(path):
             else:
                 said.setdefault(key, []).append(text)
     return said, [(file, "\n".join(old), "\n".join(new)) for file, old, new in edits]
-
-
-def read_crates():
-    """Of each crate of the repository the names that it stands on."""
-    with open(os.path.join(program.TOP, "crates.txt"), encoding="utf-8") as file:
-        lines = [line.split(":") for line in file if not line.startswith("#") and ":" in line]
-    return {name.strip(): names.split() for name, names in lines}
 
 
 def failed_lemmas(crate, said):

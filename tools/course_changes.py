@@ -1,5 +1,5 @@
-"""Changes of kept runs that are to make the clauses 1 to 3 of an audit false, for tools/mutations.py: of what is carried, of beats,
-readings and deaths, and of what the controller does.
+"""Changes of kept runs that are to make the clauses 1 to 3 of an audit false, for tools/mutations.py: of what is carried,
+of beats, readings and deaths, and of what the controller does.
 
 Python 3.8 or later, and nothing but its standard library.
 """

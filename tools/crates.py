@@ -15,11 +15,18 @@ PARTS = ("src", "specs", "proofs")
 OF_TESTS = re.compile(r"^#\[cfg\(test\)\]\nmod (\w+)(?:;\n| \{\n(?:(?!\}).*\n)*\}\n)", re.M)
 
 
+def name_and_uses(line):
+    """The name of the crate that a line of crates.txt is of, and the names of the libraries that it uses; no name if the line
+    is of none."""
+    name, colon, uses = line.partition("#")[0].partition(":")
+    return name.strip() if colon else "", uses.split()
+
+
 def used_by():
-    """Each crate's name, and the names of the libraries that it uses."""
-    with open(os.path.join(TOP, "crates.txt")) as file:
-        rows = [line.partition("#")[0].partition(":") for line in file]
-    return {name.split()[0]: uses.split() for name, colon, uses in rows if colon}
+    """Each crate's name, and the names of the libraries that it uses, as crates.txt has them."""
+    with open(os.path.join(TOP, "crates.txt"), encoding="utf-8") as file:
+        rows = map(name_and_uses, file)
+        return {name: uses for name, uses in rows if name}
 
 
 def below_program():
@@ -44,7 +51,7 @@ def copy(names, top, parts=PARTS):
                 shutil.copytree(source, os.path.join(top, "crates", name, part))
     shutil.copy(os.path.join(TOP, "HANDLES"), top)
     with open(os.path.join(TOP, "crates.txt")) as listed, open(os.path.join(top, "crates.txt"), "w") as file:
-        file.writelines(line for line in listed if set(names).intersection(line.partition(":")[0].split()[:1]))
+        file.writelines(line for line in listed if name_and_uses(line)[0] in names)
 
 
 def leave_out_tests(names, top):

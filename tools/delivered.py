@@ -10,10 +10,14 @@ from moments import due, true_time
 def are_served(run):
     """10: Each settled visit of each Put was delivered or is excused, and the viewers got nothing but what such visits want."""
     puts = [tenancy_of(e.fields) for journal in run.journals for e in journal if e.word == "put"]
-    settled = all(is_delivered(run, puts, t.instance, visit) or is_excused(run, puts, t.instance, visit)
-                  for t in puts for visit in settled_visits(run, t))
+    settled = all(is_served(run, puts, t.instance, visit) for t in puts for visit in settled_visits(run, t))
     got = [parcel_of(e) for e in run.journals[run.viewers] if has_note(e, "got", WHOLE, PIECE)]
     return settled and all(is_of_visit(run, puts, parcel) for parcel in got)
+
+
+def is_served(run, puts, v, visit):
+    """Whether the block of a visit was delivered or is excused."""
+    return is_delivered(run, puts, v, visit) or is_excused(run, puts, v, visit)
 
 
 def settled_visits(run, t):

@@ -1,4 +1,5 @@
-"""Checks for tools/check-program that the edits which the prover must refuse fit the texts that they change.
+"""Checks for tools/check-program that the edits which the prover must refuse fit the texts that they change, and that no
+line of a tool is too long.
 
 Each text that an edit of wrong-bodies/, crates/*/must-fail, wrong-rules/ or wrong-statements/ replaces stands once in its
 file. What a wrong rule names as false stands in the proofs of its crate, and the function whose contract is its law in
@@ -13,6 +14,7 @@ from copied import read_edits
 from together import Edit
 
 CRATES = os.path.join(program.TOP, "crates")
+COLUMNS = 130  # that a line of a tool may have
 USER = os.path.join(CRATES, "promises", "src", "lib.rt")  # it uses each clause that wrong-statements/ changes
 
 
@@ -83,6 +85,16 @@ def statement_fits(path):
     return does_not_fit(path, changes)
 
 
+def long_lines():
+    """The programs of tools/ and the gate have no line that is too long to be read beside another file."""
+    paths = [os.path.join(program.TOP, ".ci", "run")]
+    paths += [it for it in glob.glob(os.path.join(program.TOP, "tools", "*")) if os.path.isfile(it)]
+    for path in (it for it in sorted(paths) if not it.endswith(".md")):
+        for number, line in enumerate(content(path).splitlines(), 1):
+            if len(line) > COLUMNS:
+                yield f"{named(path)} has {len(line)} columns in line {number}"
+
+
 def all_of_them():
     """A case for each kind of edit: all of it fit, and there is one."""
     bodies = [body_fits(path, path.split(os.sep)[-2]) for path in edits("wrong-bodies", "*")]
@@ -92,3 +104,4 @@ def all_of_them():
     for kind, found in (("wrong bodies", bodies), ("edits of must-fail", gated), ("wrong rules", rules),
                         ("wrong statements", statements)):
         yield f"the {kind} fit", "; ".join(filter(None, found)) if found else "there is none"
+    yield "the lines of the tools", "; ".join(long_lines())

@@ -1,6 +1,7 @@
 """How the tools for users read their words, run the program and end: wrong words get one line and status 64, a signal
 ends a tool and what it runs, quietly, and an output that cannot be written is said in one line."""
 import argparse
+import contextlib
 import os
 import signal
 import subprocess
@@ -16,7 +17,6 @@ AS_IT_STANDS = argparse.RawDescriptionHelpFormatter
 HUNG = "hung"  # the status of a run that was not over in time
 GRACE = 5  # seconds in which what is to end may do so by itself
 STATUSES = range(2, 9)  # those with which the program ends without a report, or with a part of one
-ENDING = (signal.SIGINT, signal.SIGTERM, signal.SIGHUP)  # the signals that end a tool
 
 
 class Stopped(BaseException):
@@ -34,12 +34,17 @@ class Held:
     is_on, came = False, None
 
     @classmethod
-    def hold(cls, is_on):
-        """Holds signals back, or lets the one go that came."""
-        if threading.current_thread() is threading.main_thread():
-            cls.is_on = is_on
-            if not is_on and cls.came:
-                raise Stopped(cls.came)
+    @contextlib.contextmanager
+    def starts(cls):
+        """Holds signals back, and lets the one go that came."""
+        is_first = threading.current_thread() is threading.main_thread()
+        cls.is_on = cls.is_on or is_first
+        try:
+            yield
+        finally:
+            cls.is_on = cls.is_on and not is_first
+        if is_first and cls.came:
+            raise Stopped(cls.came)
 
 
 class Words(argparse.ArgumentParser):
@@ -61,8 +66,7 @@ def words_of_run(doc):
     """A reader of words with the options of all tools that show one run: the program or a kept report, and a limit."""
     reader = words(doc)
     reader.add_argument("--report", metavar="FILE", help="take this report, and run no program")
-    reader.add_argument("--seconds", metavar="S", type=positive, default=program.WAIT,
-                        help="how long the program may take (%(default)s)")
+    program.with_wait(reader)
     reader.add_argument("scenario", metavar="SCENARIO")
     return reader
 
@@ -76,21 +80,11 @@ def say(tool, message):
 
 
 def program_of(given):
-    """The program that was asked for, else the built one. While that is built a signal does what it does by default, so
-    that the build ends too."""
+    """The program that was asked for, else the built one. A signal ends the build too."""
     if given.program and not (os.path.isfile(given.program) and os.access(given.program, os.X_OK)):
         raise Unfit(f"{given.program} cannot be run")
     given.program = given.program and os.path.abspath(given.program)
-    kept = {number: signal.getsignal(number) for number in ENDING if signal.getsignal(number) != signal.SIG_IGN}
-    for number in kept:
-        signal.signal(number, signal.default_int_handler if number == signal.SIGINT else signal.SIG_DFL)
-    try:
-        return given.program or program.built()
-    except KeyboardInterrupt:
-        raise Stopped(signal.SIGINT)
-    finally:
-        for number, handler in kept.items():
-            signal.signal(number, handler)
+    return given.program or program.built(Held.starts)
 
 
 def positive(text):
@@ -102,34 +96,32 @@ def positive(text):
 
 def ended_of(command, seconds):
     """How a command ends; after so many seconds it is hung. If it hangs or a signal comes, what it started ends too."""
-    Held.hold(True)
+    begun = []
     try:
-        ran = subprocess.Popen(command, stdin=subprocess.DEVNULL, stdout=subprocess.PIPE, stderr=subprocess.PIPE,
-                               start_new_session=True)
-    except OSError as why:
-        Held.hold(False)
-        raise Unfit(f"{command[0]} cannot be run: {why.strerror}")
-    try:
-        Held.hold(False)
-        out, err = ran.communicate(timeout=seconds)
+        with Held.starts():
+            begun.append(subprocess.Popen(command, stdin=subprocess.DEVNULL, stdout=subprocess.PIPE,
+                                          stderr=subprocess.PIPE, start_new_session=True))
+        out, err = begun[0].communicate(timeout=seconds)
+        return program.Ended(begun[0].returncode, out, err)
     except subprocess.TimeoutExpired:
         return program.Ended(HUNG, b"", f"no answer in {seconds} seconds\n".encode())
+    except OSError as why:
+        raise Unfit(f"{command[0]} cannot be run: {why.strerror}")
     finally:
-        if ran.returncode is None:
+        for ran in begun:
             end(ran)
-    return program.Ended(ran.returncode, out, err)
 
 
 def end(ran):
-    """Ends a process and its group: by SIGTERM, since what it is may have to end more, and else by SIGKILL."""
-    for number in (signal.SIGTERM, signal.SIGKILL):
-        os.killpg(ran.pid, number)
-        try:
+    """Ends a process, if it has not ended: by SIGTERM, since what it is may have to end more. Then it ends what is left of
+    its group, by SIGKILL."""
+    if ran.returncode is None:
+        ran.terminate()
+        with contextlib.suppress(subprocess.TimeoutExpired):
             ran.wait(GRACE)
-            return
-        except subprocess.TimeoutExpired:
-            pass
-    ran.wait()
+    program.kill(ran)
+    with ran:
+        pass
 
 
 def how(status):
@@ -152,7 +144,7 @@ def report_of(given):
     if given.report is not None:
         return content(given.report)
     tiger = program_of(given)
-    ended = ended_of([tiger, "run", given.scenario, "1"], given.seconds)
+    ended = ended_of([tiger, "run", given.scenario, "1"], given.wait)
     if ended.status == 0:
         return ended.out
     line = line_of(ended)
@@ -200,10 +192,10 @@ def write(text):
 
 def run(tool, work):
     """Does the work of a tool, and ends with the status that it gives."""
-    for number in ENDING:
-        if signal.getsignal(number) != signal.SIG_IGN:
-            signal.signal(number, stop)
     try:
+        for number in program.ENDING:
+            if signal.getsignal(number) != signal.SIG_IGN:
+                signal.signal(number, stop)
         sys.exit(work())
     except Unfit as why:
         say(tool, why)
@@ -215,7 +207,7 @@ def run(tool, work):
 
 def stop(number, _):
     """Ends the tool by a signal: the first one counts, and those behind it are of no use."""
-    for other in ENDING:
+    for other in program.ENDING:
         signal.signal(other, signal.SIG_IGN)
     if not Held.is_on:
         raise Stopped(number)

@@ -8,6 +8,7 @@ import subprocess
 import sys
 import time
 
+import disk_wrongs
 import launcher_checks
 import program
 import tool_checks
@@ -17,10 +18,12 @@ STAND_INS = {  # programs that are not this one
     "true": "exit 0",
     "crashes": "kill -SEGV $$",
     "other": "echo 'total starts 1'",
+    "junk": "printf '\\377'; printf '\\377\\n' >&2; exit 5",
     "hangs": "exec sleep 600",
 }
 WRONG = (  # words that a tool does not take
-    "stress 1 0", "stress 1 -1", "stress x 1", "stress 1 1 --program /nowhere", "stress 1 1 --wait 0", "draw 1 0",
+    "stress 1 0", "stress 1 -1", "stress x 1", "stress 1 1 --program /nowhere", "stress 1 1 --wait 0",
+    "stress 1 1 --wait 1000000", "draw 1 0",
     "draw 1 1 --jobs 0", "draw 1 1 --minutes 0", "draw 1 1 --minutes -1", "draw 1 1 --minutes nan", "draw 1",
     "draw 1 1 --reference /nowhere", "draw-nets 1 0", "draw-nets x 1", "draw-nets 1 1 --program /nowhere",
     "conformance --cases /nowhere", "conformance run", "conformance --workers 65",
@@ -32,13 +35,14 @@ WRONG = (  # words that a tool does not take
     "bench --rounds 0", "bench --workers 0", "bench nothing", "bench --beside /nowhere", "hostile 1 0", "hostile",
     "hostile --costs --tiger /nowhere", "hostile 1 1 --program /nowhere", "refuse-allocations --last 0",
     "refuse-allocations --workers 0", "refuse-rules --only nothing-of-this-name", "refuse-rules --libraries /nowhere",
-    "wrong-bodies nothing", "plant-bugs 1 0", "plant-bugs 1 1 --crates nothing", "explain", "picture",
+    "net-states nothing", "net-states places-unasked x", "wrong-bodies nothing",
+    "plant-bugs 1 0", "plant-bugs 1 1 --crates nothing", "explain", "picture",
     "picture one.json --at x", "check-program --program /nowhere", "build x")
 TRIES = (  # the words of tools that try a program, whichever it is
-    "stress 1 1", "draw 1 2 --reference PROGRAM", "conformance made", "conformance net", "conformance disks", "conformance audit", "deaths",
-    "cuts --beats 2 --reference PROGRAM", "returns --beats 1 --reference PROGRAM",
+    "stress 1 1", "draw 1 2 --reference PROGRAM", "conformance made", "conformance net", "conformance disks",
+    "conformance audit", "deaths", "cuts --beats 2 --reference PROGRAM", "returns --beats 1 --reference PROGRAM",
     "bench made --rounds 1", "hostile 1 1", "refuse-allocations --last 1",
-    "draw-nets 1 2", "audit-mutations 1 1")
+    "draw-nets 1 2", "audit-mutations 1 1", "picture one.json", "picture net.json", "explain 5 one.json", "explain 9 one.json")
 
 
 def tool(words, folder, stand_in):
@@ -91,25 +95,86 @@ def nothing_to_try(tiger, folder):
 
 
 def interrupted(folder):
-    """SIGINT ends a tool and the program that it runs, with what was found and status 130."""
+    """A signal ends a tool and the program that it runs, with what was found and 128 and the signal's number as status."""
     begun = os.path.join(folder, "begun")
     path = os.path.join(folder, "runs-on")
     with open(path, "w", encoding="ascii") as file:
         file.write(f"#!/bin/sh\necho $$ >>'{begun}'\nexec sleep 600\n")
     os.chmod(path, 0o755)
-    for words, said in (("stress 1 1", b"stress: 0 agreed, 0 differed\n"),
-                        ("deaths", b"deaths: 0 passed, 0 failed\n"),
-                        ("cuts --reference PROGRAM", b"cuts: 0 passed, 0 failed\n"), ("bench made", b"")):
+    for words, number, said in (("stress 1 1", signal.SIGINT, b"stress: 0 agreed, 0 differed\n"),
+                                ("deaths", signal.SIGINT, b"deaths: 0 passed, 0 failed\n"),
+                                ("cuts --reference PROGRAM", signal.SIGINT, b"cuts: 0 passed, 0 failed\n"),
+                                ("bench made", signal.SIGINT, b""), ("picture one.json", signal.SIGTERM, b""),
+                                ("explain 5 one.json", signal.SIGHUP, b""),
+                                ("conformance net", signal.SIGTERM, b"conformance: 0 passed, 0 failed\n")):
         name, *others = words.replace("PROGRAM", path).split()
         running = subprocess.Popen([sys.executable, os.path.join(tool_checks.TOOLS, name), "--program", path, *others],
                                    cwd=folder, stdout=subprocess.PIPE, stderr=subprocess.PIPE, preexec_fn=heeds)
         processes = lines_of(begun)
-        running.send_signal(signal.SIGINT)
+        running.send_signal(number)
         got = program.ended(running, program.WAIT)
         left = [it for it in processes if not ends(int(it))]
         os.remove(begun)
-        good = got.status == 130 and got.out.endswith(said) and got.err.count(b"\n") <= 1 and not has_traceback(got)
-        yield f"SIGINT to {words}", "" if good and not left else f"status {got.status}, '{got.err.decode()}', {left}"
+        good = got.status == 128 + number and got.out.endswith(said) and got.err.count(b"\n") <= 1 and not has_traceback(got)
+        yield f"{number.name} to {words}", "" if good and not left else f"status {got.status}, '{got.err.decode()}', {left}"
+
+
+AS_IT_BEGINS = """
+import os, signal, subprocess, program
+begins = subprocess.Popen
+def begins_late(*words, **how):
+    begun = begins(*words, **how)
+    print(begun.pid, flush=True)
+    os.kill(os.getpid(), signal.SIGTERM)
+    return begun
+subprocess.Popen, program.BUILD = begins_late, "sleeps.py"
+"""
+
+
+def as_it_begins(folder):
+    """A signal that comes as a process begins ends that process too: a program, or the build of it."""
+    with open(os.path.join(folder, "sleeps.py"), "w", encoding="ascii") as file:
+        file.write("import time\ntime.sleep(600)\n")
+    for what, work in (("a program", "program.run(['sleep', '600'], '.')"), ("the build", "program.built()")):
+        text = f"{AS_IT_BEGINS}program.finish(lambda: {work} and 0)\n"
+        got = program.run([sys.executable, "-c", text], folder, env={**os.environ, "PYTHONPATH": tool_checks.TOOLS},
+                          preexec_fn=heeds)
+        good = got.status == 143 and got.err == b"" and got.out.strip().isdigit() and ends(int(got.out))
+        yield f"SIGTERM as {what} begins", "" if good else f"status {got.status}, '{got.err.decode()}', or it goes on"
+
+
+def leaves_nothing(folder):
+    """What a program starts and leaves is ended with it, also if it has ended itself, and if it hangs."""
+    wait, program.WAIT = program.WAIT, 1
+    for name, text in (("ends", "sleep 600 >/dev/null 2>&1 & echo $! >begun"),
+                       ("ends while that may write", "sleep 600 & echo $! >begun"),
+                       ("hangs", "sleep 600 & echo $! >begun; wait")):
+        got = program.run(["/bin/sh", "-c", text], folder)
+        process = lines_of(os.path.join(folder, "begun"))
+        os.remove(os.path.join(folder, "begun"))
+        good = got.status == (0 if name == "ends" else "none") and process and ends(int(process[0]))
+        yield f"what a program leaves that {name}", "" if good else f"status {got.status}, or it goes on"
+    program.WAIT = wait
+
+
+def tries_unproved(folder):
+    """`conformance --unproved` fails if `rt` is not there, fails or is ended by a signal, and a signal ends it."""
+    at, begun = os.path.join(folder, "with rt"), os.path.join(folder, "rt-begun")
+    os.mkdir(at)
+    command = [sys.executable, os.path.join(tool_checks.TOOLS, "conformance"), "--unproved"]
+    for text, status in ((None, 1), ("exit 3", 1), ("kill -KILL $$", 1), ("exit 0", 0),
+                         (f"sleep 600 & echo $$ $! >'{begun}'; wait", 143)):
+        disk_wrongs.put(os.path.join(at, "rt"), text)
+        path = at if text is None else at + os.pathsep + "/usr/bin" + os.pathsep + "/bin"
+        running = program.Interrupt.begin(command, cwd=folder, stdout=subprocess.PIPE, stderr=subprocess.PIPE,
+                                          preexec_fn=heeds, env={**os.environ, "PATH": path})
+        processes = lines_of(begun) if status == 143 else []
+        if processes:
+            running.send_signal(signal.SIGTERM)
+        got = program.ended(running, program.WAIT)
+        left = [it for it in processes if not ends(int(it))]
+        good = got.status == status and not has_traceback(got)
+        yield f"unproved runs if rt has '{text}'", "" if good and not left else f"status {got.status}, {got.err.decode()}"
 
 
 def taken_by_another(folder):
@@ -125,8 +190,9 @@ def taken_by_another(folder):
 
 
 def heeds():
-    """Has a process heed SIGINT, also below `nohup` and in the background."""
-    signal.signal(signal.SIGINT, signal.SIG_DFL)
+    """Has a process heed the signals that end it, also below `nohup` and in the background."""
+    for number in program.ENDING:
+        signal.signal(number, signal.SIG_DFL)
 
 
 def lines_of(path):
@@ -155,10 +221,9 @@ def ends(process):
 
 
 def begins_group():
-    """Has a process begin a group of its own and heed the signals that end it, also below `nohup` and in the background."""
+    """Has a process begin a group of its own and heed the signals that end it."""
     os.setpgrp()
-    for number in (signal.SIGHUP, signal.SIGINT, signal.SIGTERM):
-        signal.signal(number, signal.SIG_DFL)
+    heeds()
 
 
 def launched(copy, text):
@@ -235,6 +300,9 @@ def all_of_them(tiger, folder):
     yield from no_program(folder)
     yield from nothing_to_try(tiger, folder)
     yield from interrupted(folder)
+    yield from as_it_begins(folder)
+    yield from leaves_nothing(folder)
+    yield from tries_unproved(folder)
     yield from taken_by_another(folder)
     for number, check in enumerate((on_a_terminal, lambda at: first_words(tiger, at))):
         at = os.path.join(folder, f"launcher {number}")

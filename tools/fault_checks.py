@@ -76,12 +76,12 @@ def unread():
 
 def piped(tiger, words, folder, command):
     """How the program ends if standard input is a pipe into which a command writes."""
-    with subprocess.Popen(command, cwd=folder, stdin=subprocess.DEVNULL, stdout=subprocess.PIPE,
-                          stderr=subprocess.DEVNULL) as writer:
-        got = run(tiger, words, folder, given=writer.stdout)
-        writer.stdout.close()
-        writer.kill()
-    return got
+    writer = program.Interrupt.begin(command, cwd=folder, stdin=subprocess.DEVNULL, stdout=subprocess.PIPE,
+                                     stderr=subprocess.DEVNULL)
+    try:
+        return run(tiger, words, folder, given=writer.stdout)
+    finally:
+        program.Interrupt.end(writer)
 
 
 def streams(tiger, folder):
@@ -152,8 +152,8 @@ def inputs(tiger, folder):
     """Scenarios, plans and files that cannot be read, and some that do not end."""
     os.chmod(folder, 0o755)
     tiger, scenario = shutil.copy(tiger, folder), content(folder, "one.json")  # nobody may not get at the first one
-    for name, command in (("secret.json", RUN), ("secret-spare.json", SPARE), ("secret-net.json", NET), ("secret-disks.json", DISKS),
-                          ("secret-check.json", CHECK), ("secret-audit.json", AUDIT)):
+    for name, command in (("secret.json", RUN), ("secret-spare.json", SPARE), ("secret-net.json", NET),
+                          ("secret-disks.json", DISKS), ("secret-check.json", CHECK), ("secret-audit.json", AUDIT)):
         with open(os.path.join(folder, name), "wb") as file:
             file.write(content(folder, command[1]))
         os.chmod(file.name, 0)

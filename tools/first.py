@@ -55,7 +55,9 @@ def is_command(words):
         return is_number(words[2], 1, MOST_WORKERS)
     if words[:1] == ["disks"]:
         return len(words) == 3 or len(words) == 4 and words[3] == "--force"
-    return len(words) == 2 and (words[0] in ("net", "check", "audit") or words[0] == "make" and is_number(words[1], 0, MOST_NUMBER))
+    if len(words) != 2:
+        return False
+    return words[0] in ("net", "check", "audit") or words[0] == "make" and is_number(words[1], 0, MOST_NUMBER)
 
 
 def is_text(word):

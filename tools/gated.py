@@ -7,8 +7,8 @@ refused is kept on this machine by all that its check read, so a gate that prove
 import os
 import shutil
 import tempfile
-from concurrent.futures import ThreadPoolExecutor
 
+import program
 from prover import NotBuilt, Refusals
 from together import Edit, bodies, groups, refused_alone
 
@@ -81,13 +81,14 @@ class Trial:
 
 def try_gated(prover, found, width):
     """Tries the edits by crate, and says what became of each: how many were refused, how many there are, and how many were
-    refused by an earlier run of the same."""
+    refused by an earlier run of the same. If a signal comes, those of the crates that were not tried count as not refused."""
     room = tempfile.mkdtemp(prefix="gate-edits-")
     try:
-        with ThreadPoolExecutor(os.cpu_count()) as runs:
-            trials = [Trial(prover, crate, paths, room) for crate, paths in found.items()]
-            ended = list(runs.map(Trial.run, trials))
+        trials = [Trial(prover, crate, paths, room) for crate, paths in found.items()]
+        refused = known = 0
+        for trial in program.in_turn(Trial.run, trials, os.cpu_count()):
+            refused += trial.say(width)
+            known += trial.kept
     finally:
         shutil.rmtree(room, ignore_errors=True)
-    refused = sum(trial.say(width) for trial in ended)
-    return refused, sum(map(len, found.values())), sum(trial.kept for trial in ended)
+    return refused, sum(map(len, found.values())), known

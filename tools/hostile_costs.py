@@ -58,6 +58,8 @@ def measure(stepper, tiger, plan, beats, folder):
     if not said.split() or not said.split()[-1].isdecimal():
         raise NoCosts(f"{stepper} does not say how many events there were")
     events = int(said.split()[-1])
+    if events == 0:
+        raise NoCosts(f"{stepper} says that there was no event")
     of_run = used_by([tiger, "run", "scenario", "1"], "", folder)[0] if tiger else None
     return events, used * 1e6 / events, of_run and of_run * 1e6 / events
 

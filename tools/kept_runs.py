@@ -67,7 +67,8 @@ class Run:
     def ends(self, link):
         """The nodes that a link leads from and to; None if there is no such link."""
         cubs, disks, reach = self.plan.cubs, self.disk_count, max(2, self.plan.pieces)
-        groups = ((cubs, lambda i: (self.controller, i)), (cubs, lambda i: (i, self.controller)), (cubs, lambda i: (i, self.viewers)),
+        groups = ((cubs, lambda i: (self.controller, i)), (cubs, lambda i: (i, self.controller)),
+                  (cubs, lambda i: (i, self.viewers)),
                   (cubs * reach, lambda i: (i // reach, (i // reach + i % reach + 1) % cubs)),
                   (disks, lambda i: (i % cubs, cubs + i)), (disks, lambda i: (cubs + i, i % cubs)))
         for size, ends in groups:

@@ -115,18 +115,25 @@ def counts(text):
 
 
 def answered(answer, text):
-    """How `audit` must end on a text, by `yes`, `audit CLAUSE` or `journal LINE`; the place of a clause aside."""
+    """How `audit` must end on a text, by `yes`, `audit CLAUSE at PLACE` or `journal LINE`; without a place, that aside."""
     if answer == "yes":
         return Ended(0, f"audit yes\n{counts(text)}\n".encode(), b"")
-    word, number = answer.split()
-    return refused(10, f"journal line {number}") if word == "journal" else refused(9, f"audit clause {number}")
+    word, number, *place = answer.split(" ", 2)
+    if word == "journal":
+        return refused(10, f"journal line {number}")
+    return refused(9, f"audit clause {number}" + "".join(f"\ntiger: {words}" for words in place))
+
+
+def place_of(ended):
+    """The place that a call of `audit` names in its second line, in words; none if that has another form."""
+    place = PLACE.fullmatch(ended.err.partition(b"\n")[2])
+    return place[0].decode()[len("tiger: at "):-1] if ended.status == 9 and place else ""
 
 
 def without_place(ended):
     """How a call of `audit` ended, without the line of the place, if it has one as it may be."""
-    first, feed, second = ended.err.partition(b"\n")
-    place = ended.status == 9 and PLACE.fullmatch(second)
-    return Ended(ended.status, ended.out, first + feed) if place else ended
+    first, feed, _ = ended.err.partition(b"\n")
+    return Ended(ended.status, ended.out, first + feed) if place_of(ended) else ended
 
 
 def cases(path):

@@ -83,13 +83,16 @@ CONDITIONS = {  # rule 4 by its item: what may be at most what, and how to mend 
 
 CLAUSES = {  # what `audit` asks of a run, in this order
     1: "what each node got was sent to it, comes in order and in time, and what was sent in time was got",
-    2: "each reading is what its node's clock shows in that beat, beats never fall along a journal, and each death and "
-       "each return is as the text's first lines have it",
+    2: "each reading is what its node's clock shows in that beat, beats and readings never fall along a journal, no entry "
+       "is of a beat behind the last one, each death and each return is as the text's first lines have it, and no two cubs "
+       "side by side die",
     3: "the controller does what the orders say, each once and in time",
     4: "a slot is put only if it is free, by its cub, in its window, and for a start that was asked for",
-    5: "what a cub holds and sends is part of the schedule, and follows from what it has got",
+    5: "each record of each cub's view is part of the schedule at each moment; what a cub takes came from one of the two "
+       "cubs before it or by its own put, and not too soon; and each viewer state that it sends is of a record that it has",
     6: "who was stopped does not come back",
-    7: "a visit is of one instance, and its reads are asked for once and rightly",
+    7: "what leaves for the viewers at a visit of a slot is of one instance, each block and each piece of it is asked of a "
+       "disk once at most, and a piece only after the death of the block's cub",
     8: "a cub that is believed dead has died",
     9: "a read that failed met a fault of its disk",
     10: "each settled block of each viewer came whole or in pieces, or has an excuse, and nothing else came",

@@ -182,7 +182,7 @@ def made_pages(tiger, folder):
 def failures(tiger, folder):
     """Wrong words are one line and status 64; a program that is missing, crashes, hangs or says something else, and
     what cannot be written, are one line and a failure; a refusal is handed on. No page is left."""
-    rest = ["one.json", "--out", "no.html", "--seconds"]
+    rest = ["one.json", "--out", "no.html", "--wait"]
     wrong = [], rest[1:3], ["one.json", "two.json"], [*rest, "0"], rest, ["one.json", "--ring"]
     tried = [(program.WRONG_WORD, words) for words in wrong]
     tried += [(1, [*rest, "99", "--program", path]) for path in ("/nowhere", "ten")]

@@ -24,6 +24,7 @@ BUILD = os.path.join(TOP, "tools", "build")
 PROGRAM = os.path.join(TOP, "crates", "tiger_main", "out", "tiger_main")
 CASES = os.path.join(TOP, "conformance")
 WAIT = 300  # seconds after which a run counts as hung, unless --wait gives others
+MOST_WAIT = 999999  # seconds that may be given so
 WAKE = 0.1  # seconds that the main thread has to take a signal, before it is sent again
 ENDING = (signal.SIGINT, signal.SIGTERM, signal.SIGHUP)  # the signals that end a tool
 
@@ -41,7 +42,8 @@ SAID = re.compile(rb"\Ascenario cubs \d+ slots \d+ starts \d+ beats \d+ memory \
 YES = re.compile(rb"\Aaudit yes\nentries \d+ puts \d+ stops \d+ deaths \d+ blocks \d+ pieces \d+"
                  rb" settled \d+ read \d+ piece \d+ dead \d+ stopped \d+\n\Z")  # of a kept run
 CONDITIONS = re.compile(rb"\A(?:condition \d+ left \d+ right \d+ needs [^\n]+\n)+\Z")  # of a plan, by `check`
-LAST = {"run": TOTAL, "make": TOTAL, "net": PEAK, "journal": END, "spare": TOTAL, "disks": DISK, "check": SAID, "audit": YES}  # of each command
+LAST = {"run": TOTAL, "make": TOTAL, "net": PEAK, "journal": END, "spare": TOTAL, "disks": DISK, "check": SAID,
+        "audit": YES}  # of each command
 REFUSALS = (2, 3, 4, 5, 8, 13)  # the statuses of runs that write nothing but one line on standard error
 IMAGES = (11, 12, 14)  # those of `disks` that do so besides: the device, a damaged part, an image that exists
 AUDITS = (9, 10)  # those of `audit`: a broken clause, which has a second line for its place, and a text that is none
@@ -95,7 +97,7 @@ class Interrupt:
     """The signals that end a tool: the first one kills what runs and lets no other process begin, and those after it
     change nothing. It is raised at once if it is not held back, and else where a process ends or begins."""
 
-    lock, running, held, came = threading.RLock(), set(), 0, 0
+    lock, running, held, starting, came = threading.RLock(), set(), 0, 0, 0
 
     @classmethod
     def handle(cls, number, _):
@@ -103,64 +105,94 @@ class Interrupt:
         if cls.came:
             return
         cls.came = number
-        with cls.lock:
+        with cls.lock:  # (which another thread has until the process that it starts is known)
+            is_starting = cls.starting
             for process in cls.running:
                 kill(process)
-        if not cls.held:
+        if not cls.held and not is_starting:
+            raise KeyboardInterrupt
+
+    @classmethod
+    @contextlib.contextmanager
+    def starts(cls):
+        """Has a signal wait until a process that begins is known, so that it is not left: it is raised at the end."""
+        with cls.lock:
+            cls.starting += 1
+            try:
+                if cls.came:
+                    raise KeyboardInterrupt
+                yield
+            finally:
+                cls.starting -= 1
+        if cls.came:
             raise KeyboardInterrupt
 
     @classmethod
     def begin(cls, command, **how):
-        """Starts a process, which has a group of its own with all that it starts."""
+        """Starts a process, which has a group of its own with all that it starts. A tool's signals are taken by then, as
+        `finish` has it: one that comes before it is known kills it as soon as it is."""
+        begun = []
+        try:
+            with cls.starts():
+                begun.append(subprocess.Popen(command, start_new_session=True, **how))
+                cls.running.add(begun[0])
+        except KeyboardInterrupt:
+            for process in begun:
+                cls.end(process)
+            raise
+        return begun[0]
+
+    @classmethod
+    def end(cls, process):
+        """Kills a process with its group, waits for it, and forgets it."""
+        kill(process)
+        with process:
+            pass
         with cls.lock:
-            if cls.came:
-                raise KeyboardInterrupt
-            process = subprocess.Popen(command, start_new_session=True, **how)
-            cls.running.add(process)
-        return process
+            cls.running.discard(process)
 
     @classmethod
     @contextlib.contextmanager
     def held_back(cls):
-        """Has what was found told at the end, if SIGINT comes."""
+        """Has what was found told at the end, if a signal comes."""
         cls.held += 1
         try:
             yield
         except KeyboardInterrupt:
-            pass
+            if not cls.came:
+                raise
         finally:
             cls.held -= 1
 
 
 def kill(process):
-    """Kills a process and its group, if it has not ended."""
-    if process.poll() is None:
-        with contextlib.suppress(OSError):
-            os.killpg(process.pid, signal.SIGKILL)
-        process.kill()
+    """Kills a process and its group, if it has one of its own: what it started and left there too, also if it has ended."""
+    try:
+        os.killpg(process.pid, signal.SIGKILL)
+    except ProcessLookupError:
+        process.kill()  # (which does nothing if it has ended)
 
 
 def run(command, folder, is_limited=True, **how):
     """Runs a command in a folder."""
     streams = {"stdin": subprocess.DEVNULL, "stdout": subprocess.PIPE, "stderr": subprocess.PIPE, **how}
     try:
-        return ended(Interrupt.begin(command, cwd=folder, **streams), WAIT if is_limited else None)
+        process = Interrupt.begin(command, cwd=folder, **streams)
     except OSError as error:
         return Ended("none", b"", f"{command[0]} does not start: {error.strerror}\n".encode(errors="replace"))
+    return ended(process, WAIT if is_limited else None)
 
 
 def ended(process, seconds):
-    """How a process ends; one that does not end in so many seconds, if a limit is given, is killed: it hung."""
-    with process:
-        try:
-            out, err = process.communicate(timeout=seconds)
-            found = Ended(process.returncode, out or b"", err or b"")
-        except subprocess.TimeoutExpired:
-            found = Ended("none", b"", f"no answer in {seconds} seconds\n".encode())
-        finally:
-            kill(process)
-    with Interrupt.lock:
-        Interrupt.running.discard(process)
+    """How a process ends; one that does not end in so many seconds, if a limit is given, is killed: it hung. What it
+    started and left is killed too."""
+    try:
+        out, err = process.communicate(timeout=seconds)
+        found = Ended(process.returncode, out or b"", err or b"")
+    except subprocess.TimeoutExpired:
+        found = Ended("none", b"", f"no answer in {seconds} seconds\n".encode())
+    finally:
+        Interrupt.end(process)
     if Interrupt.came:
         raise KeyboardInterrupt
     return found
@@ -174,7 +206,8 @@ def is_answer(one, last=TOTAL):
     statuses = REFUSALS + {DISK: IMAGES, YES: AUDITS}.get(last, ())
     says_all = last is SAID and one.err.startswith(b"tiger: scenario rule 4 ")
     is_silent = CONDITIONS.search(one.out) is not None if says_all else one.out == b""
-    return one.status in statuses and is_silent and re.fullmatch(rb"tiger: [^\n]+\n", one.err) is not None
+    place = rb"(?:tiger: at [^\n]+\n)?" if one.status == AUDITS[0] else rb""
+    return one.status in statuses and is_silent and re.fullmatch(rb"tiger: [^\n]+\n" + place, one.err) is not None
 
 
 def in_turn(work, items, jobs):
@@ -189,7 +222,8 @@ def status_of(tried, failed):
 
 
 def heed_signals():
-    """Has the signals that end a tool taken, and a signal that no thread wakes for sent again."""
+    """Has the signals that end a tool taken, from before its first process begins, and a signal that no thread wakes for
+    sent again."""
     for number in ENDING:
         if signal.getsignal(number) is not signal.SIG_IGN:
             signal.signal(number, Interrupt.handle)
@@ -211,29 +245,45 @@ def wake_main(told):
 
 
 def finish(main):
-    """Does a tool's work, and ends with its status."""
-    heed_signals()
+    """Does a tool's work, and ends with its status, or by a signal that came: also if it came when the work was done."""
     try:
+        heed_signals()
+        status = worked(main)
+        Interrupt.held += 1  # (what is left is short, and is not cut off)
+    except KeyboardInterrupt:
+        status = 1
+    sys.exit(128 + Interrupt.came if Interrupt.came else status)
+
+
+def worked(main):
+    """The status of a tool's work; 1 if it cannot write or read what it needs, and says so in one line."""
+    if sys.stderr is None:  # (the stream is closed, and what is said there is lost)
+        sys.stderr = open(os.devnull, "w", encoding="utf-8")
+    try:
+        if sys.stdout is None:
+            raise OSError("standard output is closed")
         status = main()
         sys.stdout.flush()
-    except KeyboardInterrupt:
-        status = 128 + Interrupt.came
+        return status
     except OSError as error:
         # (what is still to be written there would be tried once more at the end)
         os.dup2(os.open(os.devnull, os.O_WRONLY), 1)
         print(f"{os.path.basename(sys.argv[0])}: {error}", file=sys.stderr)
-        status = 1
-    sys.exit(status)
+        return 1
 
 
-def built():
-    """The path of the built program; it is built first if it is not built from what stands here."""
-    building = subprocess.Popen([sys.executable, BUILD], stdin=subprocess.DEVNULL)
+def built(starts=Interrupt.starts):
+    """The path of the built program; it is built first if it is not built from what stands here. A signal ends the build
+    too: one that comes as it begins waits in `starts` until it is known."""
+    building = []
     try:
-        status = building.wait()
-    except KeyboardInterrupt:
-        building.terminate()
-        building.wait()
+        with starts():
+            building.append(subprocess.Popen([sys.executable, BUILD], stdin=subprocess.DEVNULL))
+        status = building[0].wait()
+    except BaseException:
+        for process in building:
+            process.terminate()
+            process.wait()
         raise
     if status != 0:
         print("the program could not be built", file=sys.stderr)
@@ -253,6 +303,13 @@ def count(text):
     """The number of a word, which is 1 or more."""
     if not (text.isascii() and text.isdecimal() and int(text) >= 1):
         raise argparse.ArgumentTypeError(f"'{text}' is no number from 1 on")
+    return int(text)
+
+
+def waiting(text):
+    """How many seconds a tool waits for a run."""
+    if len(text) > len(str(MOST_WAIT)) or count(text) > MOST_WAIT:
+        raise argparse.ArgumentTypeError(f"'{text}' is no number from 1 to {MOST_WAIT}")
     return int(text)
 
 
@@ -294,9 +351,14 @@ def words(doc):
     """A reader of words with the options that all tools have that run the program."""
     reader = words_alone(doc)
     reader.add_argument("--program", metavar="PATH", type=executable, help="run this in place of the built program")
-    reader.add_argument("--wait", metavar="S", type=count, default=WAIT,
-                        help="the seconds after which a run counts as hung (%(default)s)")
+    with_wait(reader)
     return reader
+
+
+def with_wait(reader):
+    """Adds the option that says how long a tool waits for the program, in each of its runs."""
+    reader.add_argument("--wait", metavar="S", type=waiting, default=WAIT,
+                        help="the seconds after which a run counts as hung, and is killed (%(default)s)")
 
 
 def with_jobs(reader, what):

@@ -101,7 +101,8 @@ def plan_faults(plan):
 
 def by_words(folder):
     """The same words make the same scenario and files, a narrow window is warned of, and what cannot be is refused."""
-    words = ["--seed", "7", "--seconds", "5", "--deaths", "2", "--skew", "30", "--files-to", "films", "--cuts", "1", "--returns", "1"]
+    words = ["--seed", "7", "--seconds", "5", "--deaths", "2", "--skew", "30", "--files-to", "films",
+             "--cuts", "1", "--returns", "1"]
     first, second = scenario(words, folder), scenario(words, folder)
     names = [file["name"] for file in json.loads(first.out)["files"]] if first.status == 0 else []
     sizes = {os.path.getsize(os.path.join(folder, name)) for name in names}

@@ -1,5 +1,5 @@
-"""Changes of kept runs that are to make the clauses 4 to 6 and 12 of an audit false, for tools/mutations.py: of Puts, of what cubs
-have and tell of them, of stopped instances, and of starts that wait.
+"""Changes of kept runs that are to make the clauses 4 to 6 and 12 of an audit false, for tools/mutations.py: of Puts, of what
+cubs have and tell of them, of stopped instances, and of starts that wait.
 
 Python 3.8 or later, and nothing but its standard library.
 """
@@ -273,6 +273,7 @@ def starts_in_other_window(rng, run):
     ahead = [due(run, e.fields[2], e.fields[3]) - e.reading for e in puts]
     starts_unheeded(rng, run)
     if rng.random() < 0.5:
-        with_plan(run, window_a=rng.choice((max(ahead), max(ahead) + run.plan.beat, run.plan.play - run.plan.skew - run.plan.beat)))
+        widest = run.plan.play - run.plan.skew - run.plan.beat
+        with_plan(run, window_a=rng.choice((max(ahead), max(ahead) + run.plan.beat, widest)))
     else:
         with_plan(run, window_b=rng.choice((min(ahead) - 1, min(ahead) - run.plan.beat)))

@@ -1,5 +1,5 @@
-"""Changes of kept runs that are to make the clauses 7 to 11 of an audit false, for tools/mutations.py: of reads, beliefs and faults,
-and of the blocks and pieces that go to the viewers.
+"""Changes of kept runs that are to make the clauses 7 to 11 of an audit false, for tools/mutations.py: of reads, beliefs and
+faults, and of the blocks and pieces that go to the viewers.
 
 Python 3.8 or later, and nothing but its standard library.
 """
@@ -144,7 +144,8 @@ def sends_elsewhere(rng, run):
 
 
 def sends_astray(rng, run):
-    """The viewers get a block, or a piece, of the visit before a tenancy's first one or behind its last one, or one more piece."""
+    """The viewers get a block, or a piece, of the visit before a tenancy's first one or behind its last one, or one more
+    piece."""
     pair = a_parcel(rng, run)
     parcel = parcel_of(entry_at(run, pair[0]))
     t = pick(rng, [t for t, _ in visits_put(run) if t.instance == parcel.want.instance])

@@ -91,7 +91,7 @@ def content(path):
 def stand_ins(folder):
     """What is neither a report nor a refusal is in its row, and a failure."""
     paths = [stand_in(folder, name, text) for name, (text, _) in STAND_INS.items()]
-    lines = [["beats=1400", "six-viewers.json", "--program", path, "--seconds", "2" if path.endswith("hangs") else "99"]
+    lines = [["beats=1400", "six-viewers.json", "--program", path, "--wait", "2" if path.endswith("hangs") else "99"]
              for path in paths]
     for (name, (_, row)), made in zip(STAND_INS.items(), sweeps(lines, folder)):
         rows = made.out.decode().splitlines()[1:]
@@ -111,7 +111,7 @@ def failures(folder):
               (64, ["deadmen=1", *rest]), (64, ["deadman=-1", *rest]), (64, ["deadman=1..99999", *rest]),
               (64, ["deadman=1", "deadman=2", *rest]), (64, ["fixed=1", "drawn=1", *rest]),
               (64, ["viewers=7", *rest]), (64, ["deaths=5", *rest]), (64, ["beats=1", *rest, "--jobs", "0"]),
-              (64, ["beats=1", *rest, "--print"]), (64, ["beats=1", *rest, "--seconds", "x"]),
+              (64, ["beats=1", *rest, "--print"]), (64, ["beats=1", *rest, "--wait", "x"]),
               (1, ["beats=2..1", *rest]), (1, ["beats=1", "absent.json"]), (1, ["beats=1", "ten"]),
               (1, ["beats=1", rest[0], "--program", "/nowhere"]), (1, ["beats=1", rest[0], "--program", "ten"]))
     for (status, words), made in zip(wanted, sweeps([words for _, words in wanted], folder)):

@@ -5,7 +5,6 @@ import os
 import pty
 import re
 import shlex
-import subprocess
 import sys
 import xml.etree.ElementTree
 
@@ -277,14 +276,14 @@ def in_terminal(copy, *words):
     """How the launcher of a copy ends, and what it writes on standard error if that is a terminal."""
     ours, theirs = pty.openpty()
     with os.fdopen(ours, "rb", 0) as screen:
-        ran = subprocess.run([os.path.join(copy.top, "tiger"), *words], stdin=subprocess.DEVNULL, stderr=theirs,
-                             stdout=subprocess.PIPE, timeout=program.WAIT, env={**os.environ, "PATH": copy.path})
+        ran = program.run([os.path.join(copy.top, "tiger"), *words], os.getcwd(), stderr=theirs,
+                          env={**os.environ, "PATH": copy.path})
         os.write(theirs, b"end\n")
         err = b""
         while not err.endswith(b"end\r\n"):
             err += screen.read(4096)
         os.close(theirs)
-    return program.Ended(ran.returncode, ran.stdout, err.replace(b"\r\n", b"\n")[:-len("end\n")])
+    return program.Ended(ran.status, ran.out, err.replace(b"\r\n", b"\n")[:-len("end\n")])
 
 
 def offers(folder):
@@ -362,24 +361,32 @@ def returns(tiger, folder):
     yield "returns that are wrong of one death", "" if good else f"status {tried.status}, '{tried.out.decode()}'"
 
 
+def that_says(tiger, folder, change):
+    """The path of a program that is the given one, but for what a word of `sed` changes on its standard error."""
+    path = os.path.join(folder, "says-otherwise")
+    with open(path, "w", encoding="utf-8") as file:
+        file.write(f"#!/bin/sh\nexec 3>&1\n{{ {shlex.quote(tiger)} \"$@\" 2>&1 >&3; echo $? >status; }} | "
+                   f"sed '{change}' >&2\nexit $(cat status)\n")
+    os.chmod(path, 0o755)
+    return path
+
+
 def changed_runs(tiger, folder):
     """A few changes of kept runs are answered as the definitions say, though too few for a pass; and a program that is wrong of
-    one clause is found."""
-    wrong = os.path.join(folder, "wrong-of-a-clause")
-    with open(wrong, "w", encoding="utf-8") as file:
-        file.write(f"#!/bin/sh\nexec 3>&1\n{{ {shlex.quote(tiger)} \"$@\" 2>&1 >&3; echo $? >status; }} | "
-                   "sed 's/clause 8/clause 9/' >&2\nexit $(cat status)\n")
-    os.chmod(wrong, 0o755)
+    one clause, or of a place, is found."""
     words = ["1", "2", "--drawn", "0"]
     tried = tool("audit-mutations", ["--program", tiger, *words], folder)
     seldom = rb"(?:audit-mutations: clause \d+ was the first false one fewer than 20 times\n)+"
     good = tried.status == 1 and re.fullmatch(rb"[^\n]+\n" + seldom + rb"audit-mutations: \d+ passed, 0 failed\n", tried.out)
     yield "a few changed runs", "" if good else f"status {tried.status}, '{tried.out.decode()}'"
-    tried = tool("audit-mutations", ["--program", wrong, *words], folder)
-    told = re.findall(rb"audit-mutations: .*: clause 9 for clause 8; kept as (.*)\n", tried.out)
-    kept = all(content(path.decode()).endswith(b"\nend\n") for path in told)
-    good = tried.status == 1 and told and kept and tried.out.endswith(b" passed, %d failed\n" % len(told))
-    yield "a program that is wrong of a clause", "" if good else f"status {tried.status}, '{tried.out.decode()}'"
+    for what, change, told_as in (
+            ("a clause", "s/clause 8/clause 9/", rb"clause 9 for clause 8"),
+            ("a place", r"s/^\(tiger: at .*line [0-9]*\)/\10/", rb"clause \d+ at '[^']*' for '.*'")):
+        tried = tool("audit-mutations", ["--program", that_says(tiger, folder, change), *words], folder)
+        told = re.findall(rb"audit-mutations: .*: " + told_as + rb"; kept as (.*)\n", tried.out)
+        kept = all(content(path.decode()).endswith(b"\nend\n") for path in told)
+        good = tried.status == 1 and told and kept and tried.out.endswith(b" passed, %d failed\n" % len(told))
+        yield f"a program that is wrong of {what}", "" if good else f"status {tried.status}, '{tried.out.decode()}'"
 
 
 def all_of_them(tiger, folder):

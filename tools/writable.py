@@ -1,6 +1,6 @@
 """Whether bytes are the text of a writable value (docs/formats.md, section 7), plainly, for tools/audit-mutations: the form of
-its lines, and the ranges of what they tell. It names no line, and does not ask whether numbers fit 32 or 64 bits. It shares no code
-with the crates.
+its lines, and the ranges of what they tell. It names no line, and does not ask whether numbers fit 32 or 64 bits. It shares
+no code with the crates.
 
 Python 3.8 or later, and nothing but its standard library.
 """
